@@ -1,0 +1,12 @@
+pub mod Refusals
+pub mod Tickets
+pub mod Scheme
+pub mod State
+pub mod Calls
+pub mod SetUp
+pub mod Laws
+pub mod Runs
+pub mod Grants
+pub mod Spread
+pub mod Outlook
+pub mod Counts
