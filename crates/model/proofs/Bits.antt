@@ -12,6 +12,7 @@ use Rattle.std.proofs.shelf.Bits.{pow-pos, mod-below, shr-shr}
 use Rattle.std.proofs.shelf.Tests.{eqb-true, eq-eqb, ne-eqb, eqb-false, cases-order, cases-bool, cases-lt, both-ways, or-right}
 use Rattle.std.proofs.shelf.Ways.{tells}
 use Rattle.model.specs.Tickets.{bit}
+use Rattle.model.specs.Calls.{less}
 
 pub bit-zero : (x : ℕ) → bit x 0 ≡ false
 bit-zero x = rw zero-div
@@ -135,6 +136,28 @@ or-false : (b : Bool) → (b || false) ≡ b
 or-false true = refl
 or-false false = refl
 
+-- a mask without right x has the same rights but x
+module _ (m x y : ℕ) where
+  differs : bit x m ≡ true → eqb y x ≡ false → bit y m ≡ bit y (m - 2 ^ x)
+  differs on e =
+      let j : bit y (bitOr (m - 2 ^ x) (2 ^ x)) ≡ (bit y (m - 2 ^ x) || bit y (2 ^ x)) = bit-or y (m - 2 ^ x) (2 ^ x) in
+      let k : bit y m ≡ (bit y (m - 2 ^ x) || bit y (2 ^ x)) = subst (λ (n : ℕ). bit y n ≡ (bit y (m - 2 ^ x) || bit y (2 ^ x))) (less-joins m x on) j in
+      k ∙ ap (λ (b : Bool). bit y (m - 2 ^ x) || b) (bit-pow y x ∙ e) ∙ or-false (bit y (m - 2 ^ x))
+
+  less-on : bit x m ≡ true → bit y (m - 2 ^ x) ≡ (bit y m && not (eqb y x))
+  less-on on = elim (cases-bool (eqb y x)) [
+    | inl e ↦ rw (eqb-true y x e, less-lacks m x on, eq-eqb x x refl, on)
+    | inr e ↦ sym (differs on e) ∙ sym (ap (λ (b : Bool). bit y m && not b) e ∙ and-true (bit y m))
+  ]
+
+  less-off : bit x m ≡ false → bit y m ≡ (bit y m && not (eqb y x))
+  less-off off = elim (cases-bool (eqb y x)) [
+    | inl e ↦ rw (eqb-true y x e, off)
+    | inr e ↦ sym (ap (λ (b : Bool). bit y m && not b) e ∙ and-true (bit y m))
+  ]
+
+  pub bit-less : bit y (less m x) ≡ (bit y m && not (eqb y x))
+  bit-less = elim (cases-bool (bit x m)) [ inl on ↦ rw on (less-on on) | inr off ↦ rw off (less-off off) ]
 
 or-again : (a b : Bool) → ((a || b) || b) ≡ (a || b)
 or-again true b = refl

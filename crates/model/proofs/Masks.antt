@@ -44,6 +44,6 @@ copyable-ticket x l =
 pub no-right : (m x : ℕ) → m < 65536 → 16 ≤ x → bit x m ≡ false
 no-right m x l h = elim (cases-bool (bit x m)) [ inl t ↦ absurd (let b = bit-below 16 m x l t in omega arith) | inr f ↦ f ]
 
-pub has-none : (p q x : ℕ) (c : Bool) → p < 65536 → q < 65536 → 16 ≤ x → has (record { plain = p; copyable = q }) x c ≡ false
-has-none p q x true l k h = no-right q x k h
-has-none p q x false l k h = no-right p x l h
+pub no-ticket : (p q x : ℕ) (c : Bool) → p < 65536 → q < 65536 → 16 ≤ x → has (record { plain = p; copyable = q }) x c ≡ false
+no-ticket p q x true l k h = no-right q x k h
+no-ticket p q x false l k h = no-right p x l h

@@ -30,6 +30,10 @@ abbrev pub decide : {A : Type 0} → List Check → A → Answer A
 decide [] a = granted a
 decide (c ∷ cs) a = cond (c .holds) (decide cs a) (refused (refusal-number (c .refusal)))
 
+-- all checks hold, or the first that fails names the refusal
+abbrev pub passed : List Check → Answer (Unit {0})
+passed cs = decide cs tt
+
 -- the state after an answer: a refusal leaves what there was
 abbrev pub after : {A : Type 0} → Answer A → State → State → State
 after (granted a) changed st = changed
@@ -45,17 +49,16 @@ add-answer R st = decide (row-checks R st) (st .next)
 
 -- storing a set in holdings: holder and target stand, and there is a pair for it
 abbrev pub store-answer : Room → State → ℕ → ℕ → Tickets → Answer (Unit {0})
-store-answer R st h y s = decide (check NotStanding (standing st h && standing st y) ∷ check PairsTaken (stores R st h y s) ∷ []) tt
+store-answer R st h y s = passed (check NotStanding (standing st h && standing st y) ∷ check PairsTaken (stores R st h y s) ∷ [])
+
+-- what most calls check first: holder and target stand, the holder is a subject, and the scheme has the right
+abbrev pub party-checks : Scheme → State → ℕ → ℕ → ℕ → List Check
+party-checks S st h y x =
+    check NotStanding (standing st h && standing st y) ∷ check NotSubject (subject S st h) ∷ check UnknownRight (ltb x (S .rights)) ∷ []
 
 -- the question whether h holds a ticket for y
 abbrev pub question-answer : Scheme → State → ℕ → ℕ → ℕ → Bool → Answer Bool
-question-answer S st h y x c =
-    decide
-    (check NotStanding (standing st h && standing st y)
-    ∷ check NotSubject (subject S st h)
-    ∷ check UnknownRight (ltb x (S .rights))
-    ∷ [])
-    (holds st h y x c)
+question-answer S st h y x c = decide (party-checks S st h y x) (holds st h y x c)
 
 -- what h has for y when it gains one ticket
 abbrev pub gained : State → ℕ → ℕ → ℕ → Bool → Tickets
@@ -164,10 +167,8 @@ checks S R st (copy a b y x c) =
     ∷ check PairsTaken (stores R st b y (gained st b y x c))
     ∷ []
 checks S R st (demand b y x c) =
-    check NotStanding (standing st b && standing st y)
-    ∷ check NotSubject (subject S st b)
-    ∷ check UnknownRight (ltb x (S .rights))
-    ∷ check NotDemandable (demands S st b y x c)
+    party-checks S st b y x
+    ++ check NotDemandable (demands S st b y x c)
     ∷ check PairsTaken (stores R st b y (gained st b y x c))
     ∷ []
 checks S R st (create a b k) =
@@ -176,12 +177,7 @@ checks S R st (create a b k) =
     ∷ check UnknownKind (ltb k (S .kinds))
     ∷ check NoRule (isSome (rule-for S st a b k))
     ∷ (row-checks R st ++ check PairsTaken (leb (filled (child-state S st a b k)) (R .pairs)) ∷ [])
-checks S R st (drop a y x) =
-    check NotStanding (standing st a && standing st y)
-    ∷ check NotSubject (subject S st a)
-    ∷ check UnknownRight (ltb x (S .rights))
-    ∷ check NotHeld (holds st a y x false)
-    ∷ []
+checks S R st (drop a y x) = party-checks S st a y x ++ check NotHeld (holds st a y x false) ∷ []
 checks S R st (retire y) = check NotStanding (standing st y) ∷ []
 
 -- the number that a granted call answers: a copy the lowest link that holds and passes, a creation the child's number, else 0

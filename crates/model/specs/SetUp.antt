@@ -1,13 +1,13 @@
 -- The calls of a set-up: what each checks, in order, what it answers and what it leaves.
-use mathlib.Core.Bool.{Bool, _&&_}
-use mathlib.Core.List.{List, [], _∷_}
+use mathlib.Core.Bool.{Bool}
+use mathlib.Core.List.{List, [], _∷_, _++_}
 use Prim.Native.Nat.{ℕ}
 use lib.Dec.{ltb}
-use Rattle.model.specs.declared.refusal.Refusal.the-variants.{NotStanding, NotSubject, UnknownRight, PairsTaken, UnknownKind}
+use Rattle.model.specs.declared.refusal.Refusal.the-variants.{PairsTaken, UnknownKind}
 use Rattle.model.specs.Refusals.{Answer}
 use Rattle.model.specs.Scheme.{Scheme}
-use Rattle.model.specs.State.{State, Room, standing, subject, added, stored, stores}
-use Rattle.model.specs.Calls.{Check, check, decide, after, row-checks, gained}
+use Rattle.model.specs.State.{State, Room, added, stored, stores}
+use Rattle.model.specs.Calls.{Check, check, decide, after, row-checks, party-checks, gained}
 
 -- entering an entity, and placing a ticket by hand
 pub data Entry : Type 0 where
@@ -17,12 +17,7 @@ pub data Entry : Type 0 where
 -- what an entry checks, in order
 abbrev pub entry-checks : Scheme → Room → State → Entry → List Check
 entry-checks S R st (enter k) = check UnknownKind (ltb k (S .kinds)) ∷ row-checks R st
-entry-checks S R st (place a y x c) =
-    check NotStanding (standing st a && standing st y)
-    ∷ check NotSubject (subject S st a)
-    ∷ check UnknownRight (ltb x (S .rights))
-    ∷ check PairsTaken (stores R st a y (gained st a y x c))
-    ∷ []
+entry-checks S R st (place a y x c) = party-checks S st a y x ++ check PairsTaken (stores R st a y (gained st a y x c)) ∷ []
 
 -- the number that a granted entry answers: the entity's, else 0
 abbrev pub entry-reply : State → Entry → ℕ

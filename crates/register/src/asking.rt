@@ -1,11 +1,28 @@
-//! The question whether a ticket is held.
+//! The question whether a ticket is held, and the checks that it shares with the calls.
 ghost use mathlib.Core.Path.{_≡_};
 ghost use Rattle.model.specs.Refusals.{told};
-ghost use Rattle.model.specs.Calls.{question-answer};
+ghost use Rattle.model.specs.Calls.{passed, party-checks, question-answer};
 use holdings::Holdings;
 use model::Refusal;
 use model::Ticket;
 use scheme::Scheme;
+
+// What most calls check first: holder and target stand, the holder is a subject, and the scheme has the right.
+pub(crate) fn check_parties<S: Scheme, H: Holdings>(scheme: &S, holdings: &mut H, holder: u32, target: u32, right: u8) -> Result<(), Refusal>
+    requires { ⌜ H·Holdings .ok (now holdings) ⌝ }
+    ensures same { λ _. ⌜ now (holdings .exit) ≡ now (holdings .entry) ⌝ }
+    ensures answer { λ r. ⌜ told r ≡ passed (party-checks (S·Scheme .meaning (now (scheme .entry))) (H·Holdings .meaning (now (holdings .entry))) holder target right) ⌝ }
+{
+    let kind = holdings.find(holder).ok_or(Refusal::NotStanding)?;
+    let _ = holdings.find(target).ok_or(Refusal::NotStanding)?;
+    if !scheme.is_subject(kind) {
+        return Err(Refusal::NotSubject);
+    }
+    if right >= scheme.rights() {
+        return Err(Refusal::UnknownRight);
+    }
+    Ok(())
+}
 
 /// Whether the holder has the ticket for the target. Refused where holder or target does not stand, where the holder
 /// is no subject, and where the scheme has no such right. It serves whatever can be read.
@@ -14,13 +31,6 @@ pub fn question<S: Scheme, H: Holdings>(scheme: &S, holdings: &mut H, holder: u3
     ensures same { λ _. ⌜ now (holdings .exit) ≡ now (holdings .entry) ⌝ }
     ensures answer { λ r. ⌜ told r ≡ question-answer (S·Scheme .meaning (now (scheme .entry))) (H·Holdings .meaning (now (holdings .entry))) holder target (ticket .right) (ticket .copy) ⌝ }
 {
-    let kind = holdings.find(holder).ok_or(Refusal::NotStanding)?;
-    let _ = holdings.find(target).ok_or(Refusal::NotStanding)?;
-    if !scheme.is_subject(kind) {
-        return Err(Refusal::NotSubject);
-    }
-    if ticket.right >= scheme.rights() {
-        return Err(Refusal::UnknownRight);
-    }
+    check_parties(scheme, holdings, holder, target, ticket.right)?;
     Ok(holdings.tickets(holder, target).has(ticket))
 }

@@ -4,6 +4,7 @@ ghost use Rattle.model.specs.Refusals.{told, bare};
 ghost use Rattle.model.specs.State.{new};
 ghost use Rattle.model.specs.SetUp.{enter as entering, place as placing, entry-answer, entry-step};
 ghost use Rattle.model.specs.Laws.{Kept};
+use super::asking::check_parties;
 use super::open::Register;
 use holdings::Holdings;
 use holdings::HoldingsMut;
@@ -60,14 +61,7 @@ impl<S: Scheme, H: HoldingsMut> SetUp<S, H> {
         ensures answer { λ r. ⌜ told r ≡ bare (entry-answer (S·Scheme .meaning (now (self .entry) .scheme)) (H·HoldingsMut .room (now (self .entry) .holdings)) (H·Holdings .meaning (now (self .entry) .holdings)) (placing holder target (ticket .right) (ticket .copy))) ⌝ }
         ensures state { λ _. ⌜ H·Holdings .meaning (now (self .exit) .holdings) ≡ entry-step (S·Scheme .meaning (now (self .entry) .scheme)) (H·HoldingsMut .room (now (self .entry) .holdings)) (H·Holdings .meaning (now (self .entry) .holdings)) (placing holder target (ticket .right) (ticket .copy)) ⌝ }
     {
-        let kind = self.holdings.find(holder).ok_or(Refusal::NotStanding)?;
-        let _ = self.holdings.find(target).ok_or(Refusal::NotStanding)?;
-        if !self.scheme.is_subject(kind) {
-            return Err(Refusal::NotSubject);
-        }
-        if ticket.right >= self.scheme.rights() {
-            return Err(Refusal::UnknownRight);
-        }
+        check_parties(&self.scheme, &mut self.holdings, holder, target, ticket.right)?;
         let held = self.holdings.tickets(holder, target);
         self.holdings.store(holder, target, held.join(TicketSet::of(ticket)))
     }
