@@ -1,0 +1,280 @@
+//! The card scheme: persons put cards into folders, and pass folders on through yards.
+ghost use mathlib.Core.Bool.{_&&_};
+ghost use mathlib.Core.Path.{_≡_};
+ghost use lib.Dec.{eqb};
+ghost use Rattle.model.specs.Scheme.{rule-of};
+ghost use Rattle.model.specs.Tickets.{with-plain};
+ghost use Rattle.scheme.specs.Card.{card-scheme, creates};
+ghost use Rattle.scheme.specs.CardLawful.{card-well-formed};
+use super::asked::Scheme;
+use super::tables::Entry;
+use super::tables::Key;
+use super::tables::Masks;
+use super::tables::look_up;
+use model::Part;
+use model::Rule;
+use model::Sight;
+use model::TicketSet;
+
+// The types.
+const PERSON: u8 = 0;
+
+const FOLDER: u8 = 1;
+
+const YARD: u8 = 2;
+
+const CARD: u8 = 3;
+
+// The links.
+const TAKE_GRANT: u8 = 0;
+
+const OWNER: u8 = 1;
+
+// The rights as masks: read and write are inert, and take, grant and own are control rights.
+const R: u16 = 1 << 0;
+
+const W: u16 = 1 << 1;
+
+const T: u16 = 1 << 2;
+
+const G: u16 = 1 << 3;
+
+const O: u16 = 1 << 4;
+
+#[derive(Clone, Copy)]
+struct FilterKey {
+    link: u8,
+    giver: u8,
+    taker: u8,
+    target: u8,
+}
+
+impl Key for FilterKey as FilterKeyIs {
+    ghost same = { λ a b. eqb (a .link) (b .link) && eqb (a .giver) (b .giver) && eqb (a .taker) (b .taker) && eqb (a .target) (b .target) };
+
+    fn is(&self, other: &FilterKey) -> bool {
+        self.link == other.link
+            && self.giver == other.giver
+            && self.taker == other.taker
+            && self.target == other.target
+    }
+}
+
+#[derive(Clone, Copy)]
+struct DemandKey {
+    demander: u8,
+    target: u8,
+}
+
+impl Key for DemandKey as DemandKeyIs {
+    ghost same = { λ a b. eqb (a .demander) (b .demander) && eqb (a .target) (b .target) };
+
+    fn is(&self, other: &DemandKey) -> bool {
+        self.demander == other.demander && self.target == other.target
+    }
+}
+
+// A rule with one parent: what the parent gets for the child, and the child for the parent. Nobody gets anything for itself.
+#[derive(Clone, Copy)]
+struct RuleEntry {
+    parent: u8,
+    child: u8,
+    for_child: Masks,
+    to_child: Masks,
+}
+
+impl RuleEntry {
+    fn rule(self) -> Rule
+        ensures { λ r. ⌜ rule-of r ≡ creates (self .parent) (self .child) (with-plain (self .«for_child» .plain) (self .«for_child» .copyable)) (with-plain (self .«to_child» .plain) (self .«to_child» .copyable)) ⌝ }
+    {
+        Rule {
+            first: Part {
+                kind: self.parent,
+                for_child: self.for_child.tickets(),
+                for_self: TicketSet::none(),
+                to_child: self.to_child.tickets(),
+            },
+            second: None,
+            child: self.child,
+            own: TicketSet::none(),
+        }
+    }
+}
+
+const FILTERS: [Entry<FilterKey>; 5] = [
+    Entry {
+        key: FilterKey {
+            link: OWNER,
+            giver: PERSON,
+            taker: YARD,
+            target: PERSON,
+        },
+        masks: Masks {
+            plain: T | G,
+            copyable: 0,
+        },
+    },
+    Entry {
+        key: FilterKey {
+            link: OWNER,
+            giver: PERSON,
+            taker: FOLDER,
+            target: CARD,
+        },
+        masks: Masks {
+            plain: 0,
+            copyable: R | W,
+        },
+    },
+    Entry {
+        key: FilterKey {
+            link: TAKE_GRANT,
+            giver: PERSON,
+            taker: YARD,
+            target: FOLDER,
+        },
+        masks: Masks {
+            plain: 0,
+            copyable: T,
+        },
+    },
+    Entry {
+        key: FilterKey {
+            link: TAKE_GRANT,
+            giver: YARD,
+            taker: PERSON,
+            target: FOLDER,
+        },
+        masks: Masks {
+            plain: T,
+            copyable: 0,
+        },
+    },
+    Entry {
+        key: FilterKey {
+            link: TAKE_GRANT,
+            giver: FOLDER,
+            taker: PERSON,
+            target: CARD,
+        },
+        masks: Masks {
+            plain: R | W,
+            copyable: 0,
+        },
+    },
+];
+
+const DEMANDS: [Entry<DemandKey>; 1] = [Entry {
+    key: DemandKey {
+        demander: PERSON,
+        target: PERSON,
+    },
+    masks: Masks {
+        plain: 0,
+        copyable: T | G,
+    },
+}];
+
+const RULES: [RuleEntry; 3] = [
+    RuleEntry {
+        parent: PERSON,
+        child: FOLDER,
+        for_child: Masks {
+            plain: O,
+            copyable: T,
+        },
+        to_child: Masks {
+            plain: 0,
+            copyable: 0,
+        },
+    },
+    RuleEntry {
+        parent: PERSON,
+        child: YARD,
+        for_child: Masks {
+            plain: O,
+            copyable: 0,
+        },
+        to_child: Masks {
+            plain: T | G,
+            copyable: 0,
+        },
+    },
+    RuleEntry {
+        parent: PERSON,
+        child: CARD,
+        for_child: Masks {
+            plain: 0,
+            copyable: R | W,
+        },
+        to_child: Masks {
+            plain: 0,
+            copyable: 0,
+        },
+    },
+];
+
+/// The card scheme.
+#[derive(Clone, Copy)]
+pub struct CardScheme;
+
+pub impl Scheme for CardScheme as CardSchemeAsked {
+    ghost meaning = { λ _. card-scheme };
+
+    ghost lawful = { λ _. card-well-formed };
+
+    fn kinds(&self) -> u8 {
+        4
+    }
+
+    fn rights(&self) -> u8 {
+        5
+    }
+
+    fn links(&self) -> u8 {
+        2
+    }
+
+    fn is_subject(&self, kind: u8) -> bool {
+        match kind {
+            PERSON | FOLDER | YARD => true,
+            _ => false,
+        }
+    }
+
+    fn control(&self) -> u16 {
+        T | G | O
+    }
+
+    fn link(&self, link: u8, sight: Sight) -> bool {
+        match link {
+            TAKE_GRANT => sight.xy & G != 0 || sight.yx & T != 0,
+            OWNER => sight.xy & O != 0 || sight.yx & O != 0,
+            _ => false,
+        }
+    }
+
+    fn filter(&self, link: u8, giver: u8, taker: u8, target: u8) -> TicketSet {
+        look_up(
+            &FILTERS,
+            &FilterKey {
+                link,
+                giver,
+                taker,
+                target,
+            },
+        )
+    }
+
+    fn demand(&self, demander: u8, target: u8) -> TicketSet {
+        look_up(&DEMANDS, &DemandKey { demander, target })
+    }
+
+    fn rule(&self, number: usize) -> Option<Rule> {
+        if number < RULES.len() {
+            Some(RULES[number].rule())
+        } else {
+            None
+        }
+    }
+}
