@@ -3,9 +3,9 @@ ghost use mathlib.Core.Bool.{_&&_};
 ghost use mathlib.Core.Path.{_≡_};
 ghost use lib.Dec.{eqb};
 ghost use Rattle.model.specs.Scheme.{rule-of};
-ghost use Rattle.model.specs.Tickets.{with-plain};
 ghost use Rattle.scheme.specs.Card.{card-scheme, creates};
 ghost use Rattle.scheme.specs.CardLawful.{card-well-formed};
+ghost use Rattle.scheme.specs.Tables.{tickets-in};
 use super::asked::Scheme;
 use super::tables::Entry;
 use super::tables::Key;
@@ -15,6 +15,13 @@ use model::Part;
 use model::Rule;
 use model::Sight;
 use model::TicketSet;
+
+// How many types, rights and links there are.
+const KINDS: u8 = 4;
+
+const RIGHTS: u8 = 5;
+
+const LINKS: u8 = 2;
 
 // The types.
 const PERSON: u8 = 0;
@@ -30,7 +37,7 @@ const TAKE_GRANT: u8 = 0;
 
 const OWNER: u8 = 1;
 
-// The rights as masks: read and write are inert, and take, grant and own are control rights.
+// The rights as masks: r and w are inert, and t, g and o are control rights.
 const R: u16 = 1 << 0;
 
 const W: u16 = 1 << 1;
@@ -41,6 +48,7 @@ const G: u16 = 1 << 3;
 
 const O: u16 = 1 << 4;
 
+// What the filter goes by: a link, and the types of the giver, the taker and the ticket's target.
 #[derive(Clone, Copy)]
 struct FilterKey {
     link: u8,
@@ -49,7 +57,7 @@ struct FilterKey {
     target: u8,
 }
 
-impl Key for FilterKey as FilterKeyIs {
+impl Key for FilterKey as FilterIsKey {
     ghost same = { λ a b. eqb (a .link) (b .link) && eqb (a .giver) (b .giver) && eqb (a .taker) (b .taker) && eqb (a .target) (b .target) };
 
     fn is(&self, other: &FilterKey) -> bool {
@@ -60,13 +68,14 @@ impl Key for FilterKey as FilterKeyIs {
     }
 }
 
+// What the demands go by: the types of the demander and the ticket's target.
 #[derive(Clone, Copy)]
 struct DemandKey {
     demander: u8,
     target: u8,
 }
 
-impl Key for DemandKey as DemandKeyIs {
+impl Key for DemandKey as DemandIsKey {
     ghost same = { λ a b. eqb (a .demander) (b .demander) && eqb (a .target) (b .target) };
 
     fn is(&self, other: &DemandKey) -> bool {
@@ -74,7 +83,7 @@ impl Key for DemandKey as DemandKeyIs {
     }
 }
 
-// A rule with one parent: what the parent gets for the child, and the child for the parent. Nobody gets anything for itself.
+// A rule with one parent: what the parent gets for the child, and the child for the parent. Neither gets anything for itself.
 #[derive(Clone, Copy)]
 struct RuleEntry {
     parent: u8,
@@ -85,7 +94,7 @@ struct RuleEntry {
 
 impl RuleEntry {
     fn rule(self) -> Rule
-        ensures { λ r. ⌜ rule-of r ≡ creates (self .parent) (self .child) (with-plain (self .«for_child» .plain) (self .«for_child» .copyable)) (with-plain (self .«to_child» .plain) (self .«to_child» .copyable)) ⌝ }
+        ensures { λ r. ⌜ rule-of r ≡ creates (self .parent) (self .child) (tickets-in (self .«for_child»)) (tickets-in (self .«to_child»)) ⌝ }
     {
         Rule {
             first: Part {
@@ -101,138 +110,54 @@ impl RuleEntry {
     }
 }
 
+// What each link passes.
+#[rattlefmt::skip]
 const FILTERS: [Entry<FilterKey>; 5] = [
-    Entry {
-        key: FilterKey {
-            link: OWNER,
-            giver: PERSON,
-            taker: YARD,
-            target: PERSON,
-        },
-        masks: Masks {
-            plain: T | G,
-            copyable: 0,
-        },
-    },
-    Entry {
-        key: FilterKey {
-            link: OWNER,
-            giver: PERSON,
-            taker: FOLDER,
-            target: CARD,
-        },
-        masks: Masks {
-            plain: 0,
-            copyable: R | W,
-        },
-    },
-    Entry {
-        key: FilterKey {
-            link: TAKE_GRANT,
-            giver: PERSON,
-            taker: YARD,
-            target: FOLDER,
-        },
-        masks: Masks {
-            plain: 0,
-            copyable: T,
-        },
-    },
-    Entry {
-        key: FilterKey {
-            link: TAKE_GRANT,
-            giver: YARD,
-            taker: PERSON,
-            target: FOLDER,
-        },
-        masks: Masks {
-            plain: T,
-            copyable: 0,
-        },
-    },
-    Entry {
-        key: FilterKey {
-            link: TAKE_GRANT,
-            giver: FOLDER,
-            taker: PERSON,
-            target: CARD,
-        },
-        masks: Masks {
-            plain: R | W,
-            copyable: 0,
-        },
-    },
+    Entry { key: FilterKey { link: OWNER, giver: PERSON, taker: YARD, target: PERSON }, masks: Masks { plain: T | G, copyable: 0 } },
+    Entry { key: FilterKey { link: OWNER, giver: PERSON, taker: FOLDER, target: CARD }, masks: Masks { plain: 0, copyable: R | W } },
+    Entry { key: FilterKey { link: TAKE_GRANT, giver: PERSON, taker: YARD, target: FOLDER }, masks: Masks { plain: 0, copyable: T } },
+    Entry { key: FilterKey { link: TAKE_GRANT, giver: YARD, taker: PERSON, target: FOLDER }, masks: Masks { plain: T, copyable: 0 } },
+    Entry { key: FilterKey { link: TAKE_GRANT, giver: FOLDER, taker: PERSON, target: CARD }, masks: Masks { plain: R | W, copyable: 0 } },
 ];
 
-const DEMANDS: [Entry<DemandKey>; 1] = [Entry {
-    key: DemandKey {
-        demander: PERSON,
-        target: PERSON,
-    },
-    masks: Masks {
-        plain: 0,
-        copyable: T | G,
-    },
-}];
+// What may be demanded.
+#[rattlefmt::skip]
+const DEMANDS: [Entry<DemandKey>; 1] = [
+    Entry { key: DemandKey { demander: PERSON, target: PERSON }, masks: Masks { plain: 0, copyable: T | G } },
+];
 
+// Who may create what, in order.
+#[rattlefmt::skip]
 const RULES: [RuleEntry; 3] = [
-    RuleEntry {
-        parent: PERSON,
-        child: FOLDER,
-        for_child: Masks {
-            plain: O,
-            copyable: T,
-        },
-        to_child: Masks {
-            plain: 0,
-            copyable: 0,
-        },
-    },
-    RuleEntry {
-        parent: PERSON,
-        child: YARD,
-        for_child: Masks {
-            plain: O,
-            copyable: 0,
-        },
-        to_child: Masks {
-            plain: T | G,
-            copyable: 0,
-        },
-    },
-    RuleEntry {
-        parent: PERSON,
-        child: CARD,
-        for_child: Masks {
-            plain: 0,
-            copyable: R | W,
-        },
-        to_child: Masks {
-            plain: 0,
-            copyable: 0,
-        },
-    },
+    RuleEntry { parent: PERSON, child: FOLDER, for_child: Masks { plain: O, copyable: T }, to_child: NOTHING },
+    RuleEntry { parent: PERSON, child: YARD, for_child: Masks { plain: O, copyable: 0 }, to_child: Masks { plain: T | G, copyable: 0 } },
+    RuleEntry { parent: PERSON, child: CARD, for_child: Masks { plain: 0, copyable: R | W }, to_child: NOTHING },
 ];
+
+const NOTHING: Masks = Masks {
+    plain: 0,
+    copyable: 0,
+};
 
 /// The card scheme.
 #[derive(Clone, Copy)]
 pub struct CardScheme;
 
-pub impl Scheme for CardScheme as CardSchemeAsked {
+pub impl Scheme for CardScheme as CardIsScheme {
     ghost meaning = { λ _. card-scheme };
 
     ghost lawful = { λ _. card-well-formed };
 
     fn kinds(&self) -> u8 {
-        4
+        KINDS
     }
 
     fn rights(&self) -> u8 {
-        5
+        RIGHTS
     }
 
     fn links(&self) -> u8 {
-        2
+        LINKS
     }
 
     fn is_subject(&self, kind: u8) -> bool {

@@ -4,5 +4,5 @@ mod card;
 mod tables;
 
 pub use asked::Scheme;
+pub use card::CardIsScheme;
 pub use card::CardScheme;
-pub use card::CardSchemeAsked;

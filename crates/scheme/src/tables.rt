@@ -1,8 +1,8 @@
 //! Constant tables of tickets under a key, and the one lookup in them.
 ghost use mathlib.Core.Path.{_≡_};
 ghost use mathlib.Core.Bool.{Bool};
-ghost use Rattle.model.specs.Tickets.{tickets-of, with-plain};
-ghost use Rattle.scheme.specs.Tables.{looked-up};
+ghost use Rattle.model.specs.Tickets.{tickets-of};
+ghost use Rattle.scheme.specs.Tables.{looked-up, tickets-in};
 use model::TicketSet;
 
 /// A ticket set as a constant can hold it: a mask of the rights without the copy flag, and one of those with it.
@@ -15,7 +15,7 @@ pub struct Masks {
 impl Masks {
     /// The set with these tickets.
     pub fn tickets(self) -> TicketSet
-        ensures { λ r. ⌜ tickets-of r ≡ with-plain (self .plain) (self .copyable) ⌝ }
+        ensures { λ r. ⌜ tickets-of r ≡ tickets-in self ⌝ }
     {
         TicketSet::new(self.plain, self.copyable)
     }
@@ -32,7 +32,6 @@ pub trait Key {
 }
 
 /// The tickets under a key.
-#[derive(Clone, Copy)]
 pub struct Entry<K> {
     pub key: K,
     pub masks: Masks,
@@ -40,7 +39,7 @@ pub struct Entry<K> {
 
 /// The tickets of the first entry with this key, and none where there is no such entry.
 pub fn look_up<K: Key>(table: &[Entry<K>], key: &K) -> TicketSet
-    ensures { λ r. ⌜ tickets-of r ≡ looked-up (λ e. K·Key .same (e .key) (now (key .entry))) (λ e. with-plain (e .masks .plain) (e .masks .copyable)) (now (table .entry)) ⌝ }
+    ensures { λ r. ⌜ tickets-of r ≡ looked-up (λ e. K·Key .same (e .key) (now (key .entry))) (λ e. tickets-in (e .masks)) (now (table .entry)) ⌝ }
 {
     for entry in table {
         if entry.key.is(key) {

@@ -1,7 +1,7 @@
 use borrow.Author.Needs.{needs}
 use Rattle.scheme.specs.Card.{t, g, o}
 use Rattle.scheme.proofs.Masked.{shares}
-use Rattle.scheme.proofs.card.CardSchemeAsked.link.Needs as need
+use Rattle.scheme.proofs.card.CardIsScheme.link.Needs as need
 
 pub returns-then-sight-ne0 : need.returns-then-sight-ne0
 returns-then-sight-ne0 c = let x = shares g (c .args .sight .xy) in search needs
