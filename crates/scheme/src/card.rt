@@ -3,6 +3,7 @@ ghost use mathlib.Core.Bool.{_&&_};
 ghost use mathlib.Core.Path.{_≡_};
 ghost use lib.Dec.{eqb};
 ghost use Rattle.model.specs.Scheme.{rule-of};
+ghost use Rattle.model.specs.Tickets.{bit};
 ghost use Rattle.scheme.specs.Card.{card-scheme, creates};
 ghost use Rattle.scheme.specs.CardLawful.{card-well-formed};
 ghost use Rattle.scheme.specs.Tables.{tickets-in};
@@ -37,16 +38,23 @@ const TAKE_GRANT: u8 = 0;
 
 const OWNER: u8 = 1;
 
-// The rights as masks: r and w are inert, and t, g and o are control rights.
-const R: u16 = 1 << 0;
+// The rights: r and w are inert, and t, g and o are control rights.
+const R: u8 = 0;
 
-const W: u16 = 1 << 1;
+const W: u8 = 1;
 
-const T: u16 = 1 << 2;
+const T: u8 = 2;
 
-const G: u16 = 1 << 3;
+const G: u8 = 3;
 
-const O: u16 = 1 << 4;
+const O: u8 = 4;
+
+// Whether a mask has a right.
+fn has(mask: u16, right: u8) -> bool
+    ensures { λ r. ⌜ r ≡ bit right mask ⌝ }
+{
+    right < 16 && (mask >> right) % 2 == 1
+}
 
 // What the filter goes by: a link, and the types of the giver, the taker and the ticket's target.
 #[derive(Clone, Copy)]
@@ -113,25 +121,25 @@ impl RuleEntry {
 // What each link passes.
 #[rattlefmt::skip]
 const FILTERS: [Entry<FilterKey>; 5] = [
-    Entry { key: FilterKey { link: OWNER, giver: PERSON, taker: YARD, target: PERSON }, masks: Masks { plain: T | G, copyable: 0 } },
-    Entry { key: FilterKey { link: OWNER, giver: PERSON, taker: FOLDER, target: CARD }, masks: Masks { plain: 0, copyable: R | W } },
-    Entry { key: FilterKey { link: TAKE_GRANT, giver: PERSON, taker: YARD, target: FOLDER }, masks: Masks { plain: 0, copyable: T } },
-    Entry { key: FilterKey { link: TAKE_GRANT, giver: YARD, taker: PERSON, target: FOLDER }, masks: Masks { plain: T, copyable: 0 } },
-    Entry { key: FilterKey { link: TAKE_GRANT, giver: FOLDER, taker: PERSON, target: CARD }, masks: Masks { plain: R | W, copyable: 0 } },
+    Entry { key: FilterKey { link: OWNER, giver: PERSON, taker: YARD, target: PERSON }, masks: Masks { plain: 1 << T | 1 << G, copyable: 0 } },
+    Entry { key: FilterKey { link: OWNER, giver: PERSON, taker: FOLDER, target: CARD }, masks: Masks { plain: 0, copyable: 1 << R | 1 << W } },
+    Entry { key: FilterKey { link: TAKE_GRANT, giver: PERSON, taker: YARD, target: FOLDER }, masks: Masks { plain: 0, copyable: 1 << T } },
+    Entry { key: FilterKey { link: TAKE_GRANT, giver: YARD, taker: PERSON, target: FOLDER }, masks: Masks { plain: 1 << T, copyable: 0 } },
+    Entry { key: FilterKey { link: TAKE_GRANT, giver: FOLDER, taker: PERSON, target: CARD }, masks: Masks { plain: 1 << R | 1 << W, copyable: 0 } },
 ];
 
 // What may be demanded.
 #[rattlefmt::skip]
 const DEMANDS: [Entry<DemandKey>; 1] = [
-    Entry { key: DemandKey { demander: PERSON, target: PERSON }, masks: Masks { plain: 0, copyable: T | G } },
+    Entry { key: DemandKey { demander: PERSON, target: PERSON }, masks: Masks { plain: 0, copyable: 1 << T | 1 << G } },
 ];
 
 // Who may create what, in order.
 #[rattlefmt::skip]
 const RULES: [RuleEntry; 3] = [
-    RuleEntry { parent: PERSON, child: FOLDER, for_child: Masks { plain: O, copyable: T }, to_child: NOTHING },
-    RuleEntry { parent: PERSON, child: YARD, for_child: Masks { plain: O, copyable: 0 }, to_child: Masks { plain: T | G, copyable: 0 } },
-    RuleEntry { parent: PERSON, child: CARD, for_child: Masks { plain: 0, copyable: R | W }, to_child: NOTHING },
+    RuleEntry { parent: PERSON, child: FOLDER, for_child: Masks { plain: 1 << O, copyable: 1 << T }, to_child: NOTHING },
+    RuleEntry { parent: PERSON, child: YARD, for_child: Masks { plain: 1 << O, copyable: 0 }, to_child: Masks { plain: 1 << T | 1 << G, copyable: 0 } },
+    RuleEntry { parent: PERSON, child: CARD, for_child: Masks { plain: 0, copyable: 1 << R | 1 << W }, to_child: NOTHING },
 ];
 
 const NOTHING: Masks = Masks {
@@ -168,13 +176,13 @@ pub impl Scheme for CardScheme as CardIsScheme {
     }
 
     fn control(&self) -> u16 {
-        T | G | O
+        1 << T | 1 << G | 1 << O
     }
 
     fn link(&self, link: u8, sight: Sight) -> bool {
         match link {
-            TAKE_GRANT => sight.xy & G != 0 || sight.yx & T != 0,
-            OWNER => sight.xy & O != 0 || sight.yx & O != 0,
+            TAKE_GRANT => has(sight.xy, G) || has(sight.yx, T),
+            OWNER => has(sight.xy, O) || has(sight.yx, O),
             _ => false,
         }
     }
