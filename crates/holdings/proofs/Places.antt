@@ -8,8 +8,10 @@ use native.Mathlib.Omega.{arith}
 use lib.Dec.{eqb, ltb}
 use lib.ListN.{length, getD}
 use Rattle.std.specs.Options.{mapped, isSome}
+use Rattle.std.specs.shelf.Maps.{nth}
 use Rattle.std.specs.declared.option.Option.{Option}
 use Rattle.std.specs.declared.option.Option.the-variants.{Some, None}
+use Rattle.std.proofs.shelf.Maps.{nth-getD}
 use Rattle.std.proofs.shelf.Tests.{cases-bool, cases-lt, cond-true, cond-false, cond-both, eqb-true, eqb-false, eq-eqb, ne-eqb, lt-ltb, le-ltb}
 use Rattle.model.specs.declared.tickets.Entity.{Entity}
 use Rattle.model.specs.State.{kind-in, remove}
@@ -87,6 +89,13 @@ place-none (e ∷ es) a f =
 pub place-below : (low n : ℕ) (es : List Entity) (a : ℕ) → Rising low es n → a < low → place-of es a ≡ None
 place-below low n es a r l = place-none es a (λ i h e. omega (arith, rising-from low n es r i h))
 
+-- the next number is nobody's yet
+pub place-above : (low n : ℕ) (es : List Entity) → Rising low es n → place-of es n ≡ None
+place-above low n [] r = refl
+place-above low n (e ∷ es) r =
+    place-there e es n (ne-eqb (e .number) n (λ q. omega (arith, rising-low (suc (e .number)) n es (r .1))))
+    ∙ ap (mapped suc) (place-above (suc (e .number)) n es (r .1))
+
 -- where numbers rise, the number at a place is at no other
 pub place-at : (low n : ℕ) (es : List Entity) → Rising low es n → (i : ℕ) → i < length es → place-of es (getD es i blank .number) ≡ Some i
 place-at low n [] r i h = absurd (omega arith)
@@ -118,6 +127,22 @@ some-mapped f None = refl
 -- an entity stands exactly where it has a place
 pub standing-place : (es : List Entity) (a : ℕ) → isSome (kind-in es a) ≡ isSome (place-of es a)
 standing-place es a = ap isSome (kind-place es a) ∙ some-mapped (λ i. getD es i blank .kind) (place-of es a)
+
+-- the kind that is read at an entity's place, where it has one
+pub kind-none : (es : List Entity) (a : ℕ) → None ≡ place-of es a → None ≡ kind-in es a
+kind-none es a h = sym (kind-place es a ∙ ap (mapped (λ i. getD es i blank .kind)) (sym h))
+
+pub kind-found : (es : List Entity) (a i : ℕ) (e : Entity) → Some i ≡ place-of es a → Some e ≡ nth es i → Some (e .kind) ≡ kind-in es a
+kind-found es a i e h r =
+    let n : nth es i ≡ Some (getD es i blank) = nth-getD es i blank (place-some es a i (sym h) .0) in
+    let q : e ≡ getD es i blank = cc in
+    ap (λ (f : Entity). Some (f .kind)) q ∙ sym (kind-place es a ∙ ap (mapped (λ i. getD es i blank .kind)) (sym h))
+
+pub place-filled : (es : List Entity) (a i : ℕ) → Some i ≡ place-of es a → None ≡ nth es i → ⊥
+place-filled es a i h r =
+    let n : nth es i ≡ Some (getD es i blank) = nth-getD es i blank (place-some es a i (sym h) .0) in
+    let z : _≡_ {A = ℕ} 0 1 = cc in
+    omega arith
 
 -- one entity more: it has the last place, and the others keep theirs
 pub place-push : (es : List Entity) (e : Entity) (a : ℕ) → place-of es (e .number) ≡ None
@@ -206,3 +231,8 @@ place-left (e ∷ es) (suc r) b h f = elim (cases-bool (eqb (e .number) b)) [
       ap (mapped (past (suc r))) (place-there e (remove-at es r) b g) ∙ mapped-past-suc r (place-of (remove-at es r) b)
       ∙ ap (mapped suc) (place-left es r b (omega arith) f) ∙ sym (place-there e es b g)
 ]
+
+pub length-left : (es : List Entity) (r : ℕ) → r < length es → suc (length (remove-at es r)) ≡ length es
+length-left [] r h = omega arith
+length-left (e ∷ es) zero h = refl
+length-left (e ∷ es) (suc r) h = ap suc (length-left es r (omega arith))
