@@ -45,8 +45,8 @@ pub squeeze-none : (old : List ℕ) (n r count : ℕ) → Squeezed old old n r c
 squeeze-none old n r count = record { moved = λ c h. absurd (omega arith); still = λ c h. refl }
 
 -- squeezed cells, with the sizes as the rows tell them
-pub at-sizes : (old cells : List ℕ) (r n m count k : ℕ) → n ≡ m → count ≡ k → Squeezed old cells n r count (n * n) → Squeezed old cells m r k (m * m)
-at-sizes old cells r n m count k e f q = subst (λ (x : ℕ). Squeezed old cells x r k (x * x)) e (subst (λ (x : ℕ). Squeezed old cells n r x (n * n)) f q)
+pub at-sizes : (old cells : List ℕ) (r n m count k : ℕ) → n ≡ m → count ≡ k → Squeezed old cells n r count (count * n) → Squeezed old cells m r k (k * m)
+at-sizes old cells r n m count k e f q = subst (λ (x : ℕ). Squeezed old cells x r k (k * x)) e (subst (λ (x : ℕ). Squeezed old cells n r x (x * n)) f q)
 
 -- one that does not stand holds nothing
 gone-none : (cells : List ℕ) (n : ℕ) (o p : Option ℕ) → (o ≡ None) ⊎ (p ≡ None) → in-cell cells (cell-at n o p) ≡ none
@@ -68,7 +68,7 @@ removed-none st n cells m h =
 
 module _ (rows left : Rows) (cells moved : List ℕ) (m r : ℕ) (laid : Laid rows cells) (at : place-of (in-rows rows) m ≡ Some r)
     (order : In-order left) (kept : size left ≡ size rows) (next : left .next ≡ rows .next) (is-left : in-rows left ≡ remove-at (in-rows rows) r)
-    (long : length moved ≡ length cells) (q : Squeezed cells moved (size rows) r (length (in-rows rows)) (size rows * size rows)) where
+    (long : length moved ≡ length cells) (q : Squeezed cells moved (size rows) r (length (in-rows rows)) (length (in-rows rows) * size rows)) where
   abbrev es : List Entity
   es = in-rows rows
 
@@ -79,9 +79,15 @@ module _ (rows left : Rows) (cells moved : List ℕ) (m r : ℕ) (laid : Laid ro
   count = length es
 
   at-row : (i j : ℕ) → i < n → j < n → getD moved (i * n + j) 0 ≡ squeezed cells n r count i j
-  at-row i j hi hj =
-      q .moved (i * n + j) (omega (arith, mul-add-lt i n j n hi hj))
-      ∙ ap₂ (squeezed cells n r count) (div-mul-add i n j hj) (mod-mul-add i n j hj)
+  at-row i j hi hj = elim (cases-lt i count) [
+    | inl l ↦
+        q .moved (i * n + j) (omega (arith, mul-add-lt i n j count l hj))
+        ∙ ap₂ (squeezed cells n r count) (div-mul-add i n j hj) (mod-mul-add i n j hj)
+    | inr l ↦
+        q .still (i * n + j) (omega (arith, mul-le count n i n l (omega arith)))
+        ∙ laid .clear i j hi hj (inl (omega (arith, count-is rows (laid .order))))
+        ∙ sym (cond-false _ _ _ (and-left _ _ (le-ltb (i + 1) count (omega arith))))
+  ]
 
   cell-moved : (i j : ℕ) → i + 1 < count → j + 1 < count → getD moved (i * n + j) 0 ≡ getD cells (past r i * n + past r j) 0
   cell-moved i j hi hj =
@@ -133,7 +139,7 @@ module _ (rows left : Rows) (cells moved : List ℕ) (m r : ℕ) (laid : Laid ro
       record {
         order = order;
         fits = rw (kept, long) (laid .fits);
-        nested = λ k. elim (cases-lt k (n * n)) [
+        nested = λ k. elim (cases-lt k (count * n)) [
           | inl l ↦ subst Nested (sym (q .moved k l)) (cond-both (ltb (k / n + 1) count && ltb (k % n + 1) count) _ _ Nested (λ e. laid .nested _) (λ e. refl))
           | inr l ↦ subst Nested (sym (q .still k l)) (laid .nested k)
         ];

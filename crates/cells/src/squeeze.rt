@@ -43,14 +43,14 @@ fn squeeze_row(cells: &mut [u32], n: usize, out: usize, count: usize, i: usize)
     }
 }
 
-// Takes row `out` and column `out` out of the `count` that are in use.
+// Takes row `out` and column `out` out of the `count` that are in use. The rows after those stay.
 pub fn squeeze(cells: &mut [u32], n: usize, out: usize, count: usize)
     requires sized { ⌜ length (now cells) ≡ n * n ⌝ }
     requires small { ⌜ n ≤ 512 ⌝ }
     requires within { ⌜ count ≤ n ⌝ }
-    ensures { λ _. ⌜ Squeezed (now (cells .entry)) (now (cells .exit)) n out count (n * n) ⌝ }
+    ensures { λ _. ⌜ Squeezed (now (cells .entry)) (now (cells .exit)) n out count (count * n) ⌝ }
 {
-    for i in 0..n {
+    for i in 0..count {
         squeeze_row(&mut *cells, n, out, count, i);
     }
 }

@@ -11,6 +11,9 @@ ghost use Rattle.holdings.specs.Rows.{In-order, roll, row-room, size, in-rows,
 use model::Entity;
 use model::Refusal;
 
+// An entity's number is at most this.
+const LAST_NUMBER: u32 = 999_999;
+
 /// The standing entities in number order, in lent memory, and the next number.
 #[derive(Drop)]
 pub struct Rows<'r> {
@@ -99,11 +102,11 @@ impl<'r> Rows<'r> {
         ensures state { λ r. ⌜ roll (now (self .exit)) ≡ after (told r) (added (roll (now (self .entry))) kind) (roll (now (self .entry))) ⌝ }
     {
         let count = self.count;
-        if count >= self.entities.len() {
+        if count >= self.capacity() {
             return Err(Refusal::RowsTaken);
         }
         let number = self.next;
-        if number > 999_999 {
+        if number > LAST_NUMBER {
             return Err(Refusal::NumbersSpent);
         }
         self.entities[count] = Entity { number, kind };

@@ -18,5 +18,5 @@ loop-i-holds c = rw zero-mul (squeeze-none (c .args .cells .now) (c .args .n) (c
 pub returns : need.returns
 returns c =
     let a = c .args in
-    let e : c .loop-i .i ≡ a .n = omega arith in
+    let e : c .loop-i .i ≡ a .count = omega arith in
     subst (λ (k : ℕ). Squeezed (a .cells .now) (c .loop-i .cells) (a .n) (a .out) (a .count) (k * a .n)) e (c .loop-i .inv)
