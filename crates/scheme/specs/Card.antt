@@ -67,6 +67,7 @@ pub record Filter-entry : Type 0 where
   pub target : ℕ
   pub passes : Tickets
 
+-- the entry for a link, the types of giver, taker and target, and what passes
 abbrev pub on : ℕ → ℕ → ℕ → ℕ → Tickets → Filter-entry
 on i a b y s = record { link = i; giver = a; taker = b; target = y; passes = s }
 
@@ -98,7 +99,7 @@ is-by b y e = eqb (e .demander) b && eqb (e .target) y
 abbrev pub demands : List Demand-entry
 demands = record { demander = person; target = person; demands = tickets [] (t ∷ g ∷ []) } ∷ []
 
--- a rule with one parent, which gets C for the child and gives G to the child for itself
+-- a rule with one parent: C goes to the parent for the child, G to the child for the parent, and all else is empty
 abbrev pub creates : ℕ → ℕ → Tickets → Tickets → Rule
 creates parent child C G = record {
   first = record { kind = parent; for-child = C; for-self = none; to-child = G };

@@ -1,13 +1,12 @@
 -- The card scheme is well formed.
-use mathlib.Core.Bool.{false, _||_, cond}
-use mathlib.Core.Path.{_≡_, refl}
-use Prim.Native.Nat.{ℕ}
+use mathlib.Core.Path.{refl}
 use lib.Dec.{eqb, lit<, lit≤}
 use Rattle.model.specs.Scheme.{Monotone, Well-formed}
 use Rattle.model.proofs.Bits.{bit-below}
 use Rattle.scheme.specs.Card.{card-scheme, filters, is-on, demands, is-by, x-holds, y-holds, t, g, o, take-grant, owner}
 use Rattle.scheme.specs.Lawful.{looked-up-proper, child-by, first-by, second-by, distinct-by, or-more, cond-more}
 
+-- more rights never turn a link off
 links-monotone : Monotone card-scheme
 links-monotone i s s' m h =
     cond-more (eqb i take-grant) _ _ _ _
