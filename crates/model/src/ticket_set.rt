@@ -2,6 +2,7 @@
 ghost use mathlib.Core.Path.{_≡_};
 ghost use mathlib.Core.Bool.{cond};
 ghost use lib.Dec.{ltb};
+ghost use Rattle.model.specs.Calls.{without-right};
 ghost use Rattle.model.specs.Tickets.{tickets-of, none, empty, has, ticket-of, join, with-plain};
 use super::tickets::Ticket;
 use super::tickets::TicketSet;
@@ -60,5 +61,16 @@ impl TicketSet {
         ensures { λ r. ⌜ tickets-of r ≡ join (tickets-of self) (tickets-of other) ⌝ }
     {
         TicketSet::new(self.plain | other.plain, self.copyable | other.copyable)
+    }
+
+    /// The set without a right, plain and copyable.
+    pub fn without(self, right: u8) -> TicketSet
+        ensures { λ r. ⌜ tickets-of r ≡ without-right (tickets-of self) right ⌝ }
+    {
+        if right >= 16 {
+            return self;
+        }
+        let others = !(1u16 << right);
+        TicketSet::new(self.plain & others, self.copyable & others)
     }
 }

@@ -1,5 +1,6 @@
 //! What a scheme is asked.
 ghost use mathlib.Core.Path.{_≡_};
+ghost use lib.ListN.{length};
 ghost use Rattle.model.specs.Tickets.{tickets-of};
 ghost use Rattle.model.specs.Scheme.{Scheme as Meaning, Well-formed, rule-of};
 ghost use Rattle.std.specs.Options.{mapped};
@@ -48,6 +49,10 @@ pub trait Scheme {
     /// The demand function: which tickets for an entity of the second type the first type may demand.
     fn demand(&self, demander: u8, target: u8) -> TicketSet
         ensures { λ r. ⌜ tickets-of r ≡ meaning (now (self .entry)) .demand demander target ⌝ };
+
+    /// How many creation rules there are, numbered from 0.
+    fn rules(&self) -> usize
+        ensures { λ r. ⌜ r ≡ length (meaning (now (self .entry)) .rules) ⌝ };
 
     /// The creation rule with a number, counted from 0, or none past the last.
     fn rule(&self, number: usize) -> Option<Rule>

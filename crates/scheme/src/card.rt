@@ -203,6 +203,10 @@ pub impl Scheme for CardScheme as CardIsScheme {
         look_up(&DEMANDS, &DemandKey { demander, target })
     }
 
+    fn rules(&self) -> usize {
+        RULES.len()
+    }
+
     fn rule(&self, number: usize) -> Option<Rule> {
         if number < RULES.len() {
             Some(RULES[number].rule())
