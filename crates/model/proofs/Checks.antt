@@ -6,7 +6,7 @@ use Prim.Native.Nat.{ℕ}
 use native.Mathlib.Omega.{arith}
 use Rattle.std.specs.declared.option.Option.{Option}
 use Rattle.std.specs.declared.option.Option.the-variants.{Some, None}
-use Rattle.std.proofs.shelf.Tests.{and-parts, cond-both}
+use Rattle.std.proofs.shelf.Tests.{and-parts, cond-both, cond-true}
 use Rattle.model.specs.Refusals.{Answer, granted, refused, bare, refusal-number}
 use Rattle.model.specs.State.{State}
 use Rattle.model.specs.Calls.{Check, decide, passed, after, each}
@@ -50,6 +50,11 @@ decide-refused (c ∷ cs) ds a n e = go (c .holds) (decide-refused cs ds a n) e
         → cond b (decide (cs ++ ds) a) (refused (refusal-number (c .refusal))) ≡ refused n
     go true f h = f h
     go false f h = let z : refusal-number (c .refusal) ≡ n = cc in ap refused z
+
+-- where all checks are passed, the value is granted
+pub decide-all : {A : Type 0} (cs : List Check) (a : A) → All-hold cs → decide cs a ≡ granted a
+decide-all [] a h = refl
+decide-all (c ∷ cs) a h = cond-true (c .holds) (decide cs a) (refused (refusal-number (c .refusal))) (h .0) ∙ decide-all cs a (h .1)
 
 -- what is decided does not hang on the value that is granted
 pub bare-decide : {A : Type 0} (cs : List Check) (a : A) → bare (decide cs a) ≡ passed cs

@@ -1,1 +1,3 @@
 mod Entries
+mod Fronts
+mod Lowest

@@ -1,6 +1,8 @@
 //! The register: a set-up, in which entities are entered and tickets placed by hand, and the open register that it
 //! becomes for good. Both work over any scheme and any holdings that can be changed.
 mod asking;
+mod gaining;
+mod links;
 mod open;
 mod set_up;
 

@@ -5,6 +5,7 @@ ghost use Rattle.model.specs.State.{new};
 ghost use Rattle.model.specs.SetUp.{enter as entering, place as placing, entry-answer, entry-step};
 ghost use Rattle.model.specs.Laws.{Kept};
 use super::asking::check_parties;
+use super::gaining::gain;
 use super::open::Register;
 use holdings::Holdings;
 use holdings::HoldingsMut;
@@ -62,8 +63,7 @@ impl<S: Scheme, H: HoldingsMut> SetUp<S, H> {
         ensures state { λ _. ⌜ H·Holdings .meaning (now (self .exit) .holdings) ≡ entry-step (S·Scheme .meaning (now (self .entry) .scheme)) (H·HoldingsMut .room (now (self .entry) .holdings)) (H·Holdings .meaning (now (self .entry) .holdings)) (placing holder target (ticket .right) (ticket .copy)) ⌝ }
     {
         check_parties(&self.scheme, &mut self.holdings, holder, target, ticket.right)?;
-        let held = self.holdings.tickets(holder, target);
-        self.holdings.store(holder, target, held.join(TicketSet::of(ticket)))
+        gain(&mut self.holdings, holder, target, ticket)
     }
 
     /// Ends the set-up for good. The register has everything as it was.

@@ -1,11 +1,13 @@
+use mathlib.Core.List.{[], _∷_}
 use mathlib.Core.Path.{_≡_, refl, sym, ap, subst, _∙_}
 use Rattle.std.proofs.shelf.Results.{err-from-errBy}
+use Rattle.model.specs.declared.refusal.Refusal.the-variants.{PairsTaken}
 use Rattle.model.specs.Refusals.{told, refused, bare, refusal-number}
-use Rattle.model.specs.Tickets.{tickets-of, join}
-use Rattle.model.specs.State.{stored}
-use Rattle.model.specs.Calls.{after, gained, store-answer}
-use Rattle.model.specs.SetUp.{place as placing}
-use Rattle.register.proofs.Entries.{entry-kept, place-refused, place-answer, place-ticket, place-state}
+use Rattle.model.specs.State.{stored, stores}
+use Rattle.model.specs.Calls.{after, check, gained, store-answer, party-checks}
+use Rattle.model.specs.SetUp.{place as placing, entry-answer}
+use Rattle.register.proofs.Entries.{entry-kept}
+use Rattle.register.proofs.Fronts.{front-refused, front-unchanged, gain-answer, gain-state, both-stand, right-below}
 use Rattle.register.proofs.set_up.SetUp.place.Needs as need
 
 pub returns-in-Break-check-parties : need.returns-in-Break-check-parties
@@ -17,17 +19,30 @@ returns-in-Break-check-parties g c =
     let a = c .args .holder in
     let y = c .args .target in
     let t = c .args .ticket in
+    let gained-set = gained st a y (t .right) (t .copy) in
+    let rest = check PairsTaken (stores R st a y gained-set) ∷ [] in
     let same = c .in-Break-check-parties .ensures tt .same in
     let out = err-from-errBy (c .from-residual .result) (c .from-residual .ensures .1) in
-    let no = place-refused S R st a y (t .right) (t .copy) (refusal-number (c .in-Break-check-parties .field-0 .0)) (c .in-Break-check-parties .ensures tt .answer) in
-    let state = ap (g .H·Holdings .meaning) same ∙ ap (λ r. after r (stored st a y (gained st a y (t .right) (t .copy))) st) no in
+    let n = refusal-number (c .in-Break-check-parties .field-0 .0) in
+    let no = c .in-Break-check-parties .ensures tt .answer in
+    let state = ap (g .H·Holdings .meaning) same ∙ front-unchanged (party-checks S st a y (t .right)) rest 0 n no (stored st a y gained-set) st in
     record {
       kept = entry-kept S R st _ (subst (g .H·Holdings .ok) (sym same) (c .pre .holdings)) (g .S·Scheme .lawful (c .args .self .now .scheme)) (c .pre .sound)
           (placing a y (t .right) (t .copy)) _ state;
       scheme = refl;
       room = ap (g .H·HoldingsMut .room) same;
-      answer = ap told (out .1) ∙ ap (λ e. refused (refusal-number e)) (out .2) ∙ ap bare no;
+      answer = ap told (out .1) ∙ ap (λ e. refused (refusal-number e)) (out .2) ∙ ap bare (front-refused (party-checks S st a y (t .right)) rest 0 n no);
       state = state;
+    }
+
+pub gain-requires : need.gain-requires
+gain-requires g c κs =
+    let S = g .S·Scheme .meaning (c .args .self .now .scheme) in
+    let st = g .H·Holdings .meaning (c .args .self .now .holdings) in
+    record {
+      ok = subst (g .H·Holdings .ok) (sym (c .in-Continue-check-parties .ensures tt .same)) (c .pre .holdings);
+      known = right-below S st (c .args .holder) (c .args .target) (c .args .ticket .right) (c .in-Continue-check-parties .ensures tt .answer)
+          (g .S·Scheme .lawful (c .args .self .now .scheme));
     }
 
 pub returns : need.returns
@@ -39,25 +54,19 @@ returns g c =
     let a = c .args .holder in
     let y = c .args .target in
     let t = c .args .ticket in
-    let w = g .S·Scheme .lawful (c .args .self .now .scheme) in
+    let front = party-checks S st a y (t .right) in
     let p = c .in-Continue-check-parties .ensures tt .answer in
-    let asked = c .in-Continue-check-parties .ensures tt .same in
-    let same : c .tickets-held .last .self ≡ h = c .tickets-held .ensures .same ∙ asked in
-    let set : tickets-of (c .join .result) ≡ gained st a y (t .right) (t .copy) =
-        c .join .ensures
-        ∙ ap (λ s. join s (tickets-of (c .of .result))) (c .tickets-held .ensures .value ∙ ap (λ z. g .H·Holdings .meaning z .tickets a y) asked)
-        ∙ ap (join (st .tickets a y)) (c .of .ensures ∙ place-ticket S R st a y (t .right) (t .copy) p w) in
-    let answer : told (c .store .result) ≡ _ =
-        c .store .ensures .answer ∙ ap (λ z. store-answer (g .H·HoldingsMut .room z) (g .H·Holdings .meaning z) a y (tickets-of (c .join .result))) same
-        ∙ ap (store-answer R st a y) set ∙ place-answer S R st a y (t .right) (t .copy) p in
-    let state =
-        c .store .ensures .state
-        ∙ ap (λ z. after (told (c .store .result)) (stored (g .H·Holdings .meaning z) a y (tickets-of (c .join .result))) (g .H·Holdings .meaning z)) same
-        ∙ ap (λ s. after (told (c .store .result)) (stored st a y s) st) set ∙ place-state S R st a y (t .right) (t .copy) (told (c .store .result)) answer in
+    let w = g .S·Scheme .lawful (c .args .self .now .scheme) in
+    let both = both-stand S st a y (t .right) p in
+    let e = c .gain .ensures in
+    let same = c .in-Continue-check-parties .ensures tt .same in
+    let state = gain-state (g .H·HoldingsMut .room) (g .H·Holdings .meaning) h (c .check-parties .last .holdings) (c .gain .last .holdings) same
+        a y (t .right) (t .copy) (told (c .gain .result)) (e .room) (e .answer) (e .state) front p both 0 in
     record {
-      kept = entry-kept S R st _ (c .store .ensures .ok) w (c .pre .sound) (placing a y (t .right) (t .copy)) _ state;
+      kept = entry-kept S R st _ (e .ok) w (c .pre .sound) (placing a y (t .right) (t .copy)) _ state;
       scheme = refl;
-      room = c .store .ensures .room ∙ ap (g .H·HoldingsMut .room) same;
-      answer = answer;
+      room = e .room ∙ ap (g .H·HoldingsMut .room) same;
+      answer = gain-answer (g .H·HoldingsMut .room) (g .H·Holdings .meaning) h (c .check-parties .last .holdings) (c .gain .last .holdings) same
+          a y (t .right) (t .copy) (told (c .gain .result)) (e .room) (e .answer) (e .state) front p both 0;
       state = state;
     }

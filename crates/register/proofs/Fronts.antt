@@ -1,0 +1,84 @@
+-- Calls whose checks are a front that the code has gone through, and a rest: what a refusal of the front comes to, and that
+-- storing decides the rest.
+use mathlib.Core.Bool.{Bool, true, false, _&&_, not}
+use mathlib.Core.List.{List, [], _∷_, _++_}
+use mathlib.Core.Path.{_≡_, refl, sym, ap, subst, _∙_}
+use Prim.Native.Nat.{ℕ, _<_}
+use native.Mathlib.Omega.{arith}
+use lib.Dec.{leb, ltb}
+use Rattle.std.proofs.shelf.Tests.{cond-true, cond-false, ltb-true, cases-bool, both-ways}
+use Rattle.model.specs.declared.refusal.Refusal.the-variants.{PairsTaken}
+use Rattle.model.specs.Refusals.{Answer, granted, refused, bare}
+use Rattle.model.specs.Tickets.{Tickets, empty, has}
+use Rattle.model.specs.Scheme.{Scheme, Well-formed}
+use Rattle.model.specs.State.{State, Room, standing, filled, stored, stores}
+use Rattle.model.specs.Calls.{Check, check, decide, passed, after, party-checks, gained, store-answer, Call, step}
+use Rattle.model.specs.Laws.{Sound, Kept}
+use Rattle.model.proofs.Checks.{All-hold, passed-all, decide-passed, decide-refused, bare-decide, after-bare}
+use Rattle.model.proofs.Soundness.{sound-step}
+
+-- a call keeps the standing invariant
+pub call-kept : (S : Scheme) (R : Room) (st : State) (own : Type 0) → own → Well-formed S → Sound S st → (k : Call) (st′ : State) → st′ ≡ step S R st k → Kept own S st′
+call-kept S R st own o w s k st′ is = record { holdings = o; sound = subst (Sound S) (sym is) (sound-step S w R st s k) }
+
+-- the checks in front refuse
+module _ (front rest : List Check) (a n : ℕ) (no : refused n ≡ passed front) where
+  pub front-refused : refused n ≡ decide (front ++ rest) a
+  front-refused = sym (decide-refused front rest a n (sym no))
+
+  pub front-unchanged : (changed st : State) → st ≡ after (decide (front ++ rest) a) changed st
+  front-unchanged changed st = ap (λ (r : Answer ℕ). after r changed st) front-refused
+
+-- the next check after a front that is passed fails
+pub next-refused : (front : List Check) (c : Check) (n : ℕ) → granted tt ≡ passed front → c .holds ≡ false → refused n ≡ passed (c ∷ []) → refused n ≡ passed (front ++ c ∷ [])
+next-refused front c n p f e = e ∙ sym (decide-passed front (c ∷ []) tt (sym p))
+
+-- the next check is passed too
+pub next-passed : (front : List Check) (c : Check) → granted tt ≡ passed front → granted tt ≡ passed (c ∷ []) → granted tt ≡ passed (front ++ c ∷ [])
+next-passed front c p e = e ∙ sym (decide-passed front (c ∷ []) tt (sym p))
+
+-- what is left hangs on the answer alone
+pub left-by : (r : Answer (Unit {0})) (k : Answer ℕ) (changed st : State) → r ≡ bare k → after r changed st ≡ after k changed st
+left-by r k changed st e = ap (λ (b : Answer (Unit {0})). after b changed st) e ∙ after-bare k changed st
+
+-- A ticket is gained by holdings of any kind X that are as they were at the start: the checks in front are passed, and holder and
+-- target stand, so that storing decides.
+module _ {X : Type 0} (room : X → Room) (meaning : X → State) (h asked left : X) (same : asked ≡ h) (a y x : ℕ) (c : Bool) (r : Answer (Unit {0}))
+    (stays : room left ≡ room asked)
+    (answers : r ≡ store-answer (room asked) (meaning asked) a y (gained (meaning asked) a y x c))
+    (leaves : meaning left ≡ after r (stored (meaning asked) a y (gained (meaning asked) a y x c)) (meaning asked))
+    (front : List Check) (p : granted tt ≡ passed front) (both : (standing (meaning h) a && standing (meaning h) y) ≡ true) (n : ℕ) where
+  abbrev set : Tickets
+  set = gained (meaning h) a y x c
+
+  abbrev last : List Check
+  last = check PairsTaken (stores (room h) (meaning h) a y set) ∷ []
+
+  pub gain-room : room left ≡ room h
+  gain-room = stays ∙ ap room same
+
+  pub gain-answer : r ≡ bare (decide (front ++ last) n)
+  gain-answer =
+      answers ∙ ap (λ (z : X). store-answer (room z) (meaning z) a y (gained (meaning z) a y x c)) same
+      ∙ cond-true (standing (meaning h) a && standing (meaning h) y) (passed last) (refused 1) both
+      ∙ sym (bare-decide (front ++ last) n ∙ decide-passed front last tt (sym p))
+
+  pub gain-state : meaning left ≡ after (decide (front ++ last) n) (stored (meaning h) a y set) (meaning h)
+  gain-state =
+      leaves ∙ ap (λ (z : X). after r (stored (meaning z) a y (gained (meaning z) a y x c)) (meaning z)) same
+      ∙ left-by r (decide (front ++ last) n) (stored (meaning h) a y set) (meaning h) gain-answer
+
+-- the parties' checks that were passed
+module _ (S : Scheme) (st : State) (h y x : ℕ) (p : granted tt ≡ passed (party-checks S st h y x)) where
+  held-all : All-hold (party-checks S st h y x)
+  held-all = passed-all (party-checks S st h y x) (sym p)
+
+  pub both-stand : (standing st h && standing st y) ≡ true
+  both-stand = held-all .0
+
+  pub right-below : Well-formed S → x < 16
+  right-below w = omega (arith, ltb-true x (S .rights) (held-all .1 .1 .0), w .few-rights)
+
+-- a pair that is filled takes any set
+pub filled-stores : (R : Room) (st : State) (h y : ℕ) (s : Tickets) → empty (st .tickets h y) ≡ false → stores R st h y s ≡ true
+filled-stores R st h y s e = ap (λ (b : Bool). not (b && not (empty s) && leb (R .pairs) (filled st))) e
