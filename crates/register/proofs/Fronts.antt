@@ -4,16 +4,18 @@ use mathlib.Core.Bool.{Bool, true, false, _&&_, not}
 use mathlib.Core.List.{List, [], _∷_, _++_}
 use mathlib.Core.Path.{_≡_, refl, sym, ap, subst, _∙_}
 use Prim.Native.Nat.{ℕ, _<_}
+use mathlib.Core.Logic.{inl, inr}
 use native.Mathlib.Omega.{arith}
-use lib.Dec.{leb, ltb}
-use Rattle.std.proofs.shelf.Tests.{cond-true, cond-false, ltb-true, cases-bool, both-ways}
-use Rattle.model.specs.declared.refusal.Refusal.the-variants.{PairsTaken}
+use lib.Dec.{eqb, leb, ltb}
+use Rattle.std.proofs.shelf.Tests.{cond-true, ltb-true, cases-bool, both-ways, and-left, eqb-true}
+use Rattle.model.specs.declared.refusal.Refusal.the-variants.{NotHeld, PairsTaken}
 use Rattle.model.specs.Refusals.{Answer, granted, refused, bare}
-use Rattle.model.specs.Tickets.{Tickets, empty, has}
+use Rattle.model.specs.Tickets.{Tickets, bit, empty}
 use Rattle.model.specs.Scheme.{Scheme, Well-formed}
-use Rattle.model.specs.State.{State, Room, standing, filled, stored, stores}
-use Rattle.model.specs.Calls.{Check, check, decide, passed, after, party-checks, gained, store-answer, Call, step}
+use Rattle.model.specs.State.{State, Room, standing, holds, filled, stored, stores}
+use Rattle.model.specs.Calls.{Check, check, decide, passed, after, party-checks, gained, store-answer, Call, drop, retire, answer, step}
 use Rattle.model.specs.Laws.{Sound, Kept}
+use Rattle.model.proofs.Bits.{bit-zero}
 use Rattle.model.proofs.Checks.{All-hold, passed-all, decide-passed, decide-refused, bare-decide, after-bare}
 use Rattle.model.proofs.Soundness.{sound-step}
 
@@ -82,3 +84,24 @@ module _ (S : Scheme) (st : State) (h y x : ℕ) (p : granted tt ≡ passed (par
 -- a pair that is filled takes any set
 pub filled-stores : (R : Room) (st : State) (h y : ℕ) (s : Tickets) → empty (st .tickets h y) ≡ false → stores R st h y s ≡ true
 filled-stores R st h y s e = ap (λ (b : Bool). not (b && not (empty s) && leb (R .pairs) (filled st))) e
+
+-- a right that is held is dropped: the call is granted, and storing what is left is never turned down
+module _ (S : Scheme) (R : Room) (st : State) (a y x : ℕ) (p : granted tt ≡ passed (party-checks S st a y x)) (held : holds st a y x false ≡ true) where
+  filled-pair : empty (st .tickets a y) ≡ false
+  filled-pair = elim (cases-bool (eqb (st .tickets a y .plain) 0)) [
+    | inl e ↦ absurd (both-ways (bit x (st .tickets a y .plain)) (ap (bit x) (eqb-true (st .tickets a y .plain) 0 e) ∙ bit-zero x) held)
+    | inr e ↦ and-left (eqb (st .tickets a y .plain) 0) (eqb (st .tickets a y .copyable) 0) e
+  ]
+
+  pub drop-granted : granted 0 ≡ answer S R st (drop a y x)
+  drop-granted =
+      sym (decide-passed (party-checks S st a y x) (check NotHeld (holds st a y x false) ∷ []) 0 (sym p) ∙ cond-true (holds st a y x false) (granted 0) (refused 13) held)
+
+  pub drop-stored : (s : Tickets) → store-answer R st a y s ≡ granted tt
+  drop-stored s =
+      cond-true (standing st a && standing st y) (passed (check PairsTaken (stores R st a y s) ∷ [])) (refused 1) (both-stand S st a y x p)
+      ∙ cond-true (stores R st a y s) (granted tt) (refused 11) (filled-stores R st a y s filled-pair)
+
+-- an entity that stands is retired
+pub retire-granted : (S : Scheme) (R : Room) (st : State) (e : ℕ) → standing st e ≡ true → granted 0 ≡ answer S R st (retire e)
+retire-granted S R st e h = sym (cond-true (standing st e) (granted 0) (refused 1) h)

@@ -1,13 +1,47 @@
-//! Links: what they see, and the lowest one that passes a ticket.
+//! What a copy looks at: its three parties, what links see, and the lowest link that passes a ticket.
 ghost use mathlib.Core.Path.{_≡_};
-ghost use Rattle.model.specs.Refusals.{told};
-ghost use Rattle.model.specs.Calls.{sight};
-ghost use Rattle.register.specs.Passing.{lowest-answer};
+ghost use Rattle.std.specs.Vec.{made};
+ghost use Rattle.model.specs.Refusals.{told, bare};
+ghost use Rattle.model.specs.State.{kind};
+ghost use Rattle.model.specs.Calls.{passed, sight};
+ghost use Rattle.register.specs.Passing.{copy-party-checks, lowest-answer};
 use holdings::Holdings;
 use model::Refusal;
 use model::Sight;
 use model::Ticket;
 use scheme::Scheme;
+
+// The kinds of a copy's giver, taker and target.
+#[derive(Clone, Copy)]
+pub(crate) struct CopyParties {
+    pub giver: u8,
+    pub taker: u8,
+    pub target: u8,
+}
+
+// What a copy checks first: giver, taker and target stand, giver and taker are subjects, and the scheme has the right.
+pub(crate) fn check_copy_parties<S: Scheme, H: Holdings>(scheme: &S, holdings: &mut H, giver: u32, taker: u32, target: u32, right: u8) -> Result<CopyParties, Refusal>
+    requires { ⌜ H·Holdings .ok (now holdings) ⌝ }
+    ensures same { λ _. ⌜ now (holdings .exit) ≡ now (holdings .entry) ⌝ }
+    ensures answer { λ r. ⌜ bare (told r) ≡ passed (copy-party-checks (S·Scheme .meaning (now (scheme .entry))) (H·Holdings .meaning (now (holdings .entry))) giver taker target right) ⌝ }
+    ensures kinds { λ r. ⌜ made r (λ k. (k .giver ≡ kind (H·Holdings .meaning (now (holdings .entry))) giver) × (k .taker ≡ kind (H·Holdings .meaning (now (holdings .entry))) taker) × (k .target ≡ kind (H·Holdings .meaning (now (holdings .entry))) target)) ⌝ }
+{
+    let parties = CopyParties {
+        giver: holdings.find(giver).ok_or(Refusal::NotStanding)?,
+        taker: holdings.find(taker).ok_or(Refusal::NotStanding)?,
+        target: holdings.find(target).ok_or(Refusal::NotStanding)?,
+    };
+    if !scheme.is_subject(parties.giver) {
+        return Err(Refusal::NotSubject);
+    }
+    if !scheme.is_subject(parties.taker) {
+        return Err(Refusal::NotSubject);
+    }
+    if right >= scheme.rights() {
+        return Err(Refusal::UnknownRight);
+    }
+    Ok(parties)
+}
 
 // What a link from one entity to another looks at: their control rights for themselves and each other.
 pub(crate) fn sight<S: Scheme, H: Holdings>(scheme: &S, holdings: &mut H, x: u32, y: u32) -> Sight

@@ -1,9 +1,14 @@
 //! The open register.
 ghost use mathlib.Core.Path.{_≡_};
-ghost use Rattle.model.specs.Refusals.{told};
-ghost use Rattle.model.specs.Calls.{question-answer};
+ghost use Rattle.model.specs.Refusals.{told, bare};
+ghost use Rattle.model.specs.Calls.{question-answer, answer, step, copy as copying, demand as demanding, drop as dropping, retire as retiring};
 ghost use Rattle.model.specs.Laws.{Kept};
+use super::asking::check_parties;
 use super::asking::question;
+use super::gaining::gain;
+use super::links::check_copy_parties;
+use super::links::lowest_link;
+use super::links::sight;
 use holdings::Holdings;
 use holdings::HoldingsMut;
 use model::Entity;
@@ -26,6 +31,84 @@ impl<S: Scheme, H: HoldingsMut> Register<S, H> {
         ensures holdings { λ r. ⌜ r .holdings ≡ holdings ⌝ }
     {
         Register { scheme, holdings }
+    }
+
+    /// Copies a ticket for the target from the giver to the taker, and answers the lowest link that holds and passes it.
+    /// The giver needs the copyable ticket, whether the plain or the copyable one is wanted. Refused where giver, taker or
+    /// target does not stand, where giver or taker is no subject, where the scheme has no such right, where the giver
+    /// lacks the copyable ticket, where no link holds, where none that holds passes it, and where there is no room for
+    /// the pair.
+    pub fn copy(&mut self, giver: u32, taker: u32, target: u32, ticket: Ticket) -> Result<u8, Refusal>
+        requires { ⌜ Kept (H·Holdings .ok (now self .holdings)) (S·Scheme .meaning (now self .scheme)) (H·Holdings .meaning (now self .holdings)) ⌝ }
+        ensures kept { λ _. ⌜ Kept (H·Holdings .ok (now (self .exit) .holdings)) (S·Scheme .meaning (now (self .exit) .scheme)) (H·Holdings .meaning (now (self .exit) .holdings)) ⌝ }
+        ensures scheme { λ _. ⌜ now (self .exit) .scheme ≡ now (self .entry) .scheme ⌝ }
+        ensures room { λ _. ⌜ H·HoldingsMut .room (now (self .exit) .holdings) ≡ H·HoldingsMut .room (now (self .entry) .holdings) ⌝ }
+        ensures answer { λ r. ⌜ told r ≡ answer (S·Scheme .meaning (now (self .entry) .scheme)) (H·HoldingsMut .room (now (self .entry) .holdings)) (H·Holdings .meaning (now (self .entry) .holdings)) (copying giver taker target (ticket .right) (ticket .copy)) ⌝ }
+        ensures state { λ _. ⌜ H·Holdings .meaning (now (self .exit) .holdings) ≡ step (S·Scheme .meaning (now (self .entry) .scheme)) (H·HoldingsMut .room (now (self .entry) .holdings)) (H·Holdings .meaning (now (self .entry) .holdings)) (copying giver taker target (ticket .right) (ticket .copy)) ⌝ }
+    {
+        let kinds = check_copy_parties(&self.scheme, &mut self.holdings, giver, taker, target, ticket.right)?;
+        let copyable = Ticket {
+            right: ticket.right,
+            copy: true,
+        };
+        if !self.holdings.tickets(giver, target).has(copyable) {
+            return Err(Refusal::NotCopyable);
+        }
+        let seen = sight(&self.scheme, &mut self.holdings, giver, taker);
+        let link = lowest_link(&self.scheme, seen, kinds.giver, kinds.taker, kinds.target, ticket)?;
+        gain(&mut self.holdings, taker, target, ticket)?;
+        Ok(link)
+    }
+
+    /// Gives the demander a ticket for the target that the scheme lets it demand. Refused where demander or target does not
+    /// stand, where the demander is no subject, where the scheme has no such right, where it does not let the ticket be
+    /// demanded, and where there is no room for the pair.
+    pub fn demand(&mut self, demander: u32, target: u32, ticket: Ticket) -> Result<(), Refusal>
+        requires { ⌜ Kept (H·Holdings .ok (now self .holdings)) (S·Scheme .meaning (now self .scheme)) (H·Holdings .meaning (now self .holdings)) ⌝ }
+        ensures kept { λ _. ⌜ Kept (H·Holdings .ok (now (self .exit) .holdings)) (S·Scheme .meaning (now (self .exit) .scheme)) (H·Holdings .meaning (now (self .exit) .holdings)) ⌝ }
+        ensures scheme { λ _. ⌜ now (self .exit) .scheme ≡ now (self .entry) .scheme ⌝ }
+        ensures room { λ _. ⌜ H·HoldingsMut .room (now (self .exit) .holdings) ≡ H·HoldingsMut .room (now (self .entry) .holdings) ⌝ }
+        ensures answer { λ r. ⌜ told r ≡ bare (answer (S·Scheme .meaning (now (self .entry) .scheme)) (H·HoldingsMut .room (now (self .entry) .holdings)) (H·Holdings .meaning (now (self .entry) .holdings)) (demanding demander target (ticket .right) (ticket .copy))) ⌝ }
+        ensures state { λ _. ⌜ H·Holdings .meaning (now (self .exit) .holdings) ≡ step (S·Scheme .meaning (now (self .entry) .scheme)) (H·HoldingsMut .room (now (self .entry) .holdings)) (H·Holdings .meaning (now (self .entry) .holdings)) (demanding demander target (ticket .right) (ticket .copy)) ⌝ }
+    {
+        let kinds = check_parties(&self.scheme, &mut self.holdings, demander, target, ticket.right)?;
+        if !self.scheme.demand(kinds.holder, kinds.target).has(ticket) {
+            return Err(Refusal::NotDemandable);
+        }
+        gain(&mut self.holdings, demander, target, ticket)
+    }
+
+    /// Takes a right for the target from the holder, plain and copyable. Refused where holder or target does not stand,
+    /// where the holder is no subject, where the scheme has no such right, and where the ticket is not held.
+    pub fn drop_ticket(&mut self, holder: u32, target: u32, right: u8) -> Result<(), Refusal>
+        requires { ⌜ Kept (H·Holdings .ok (now self .holdings)) (S·Scheme .meaning (now self .scheme)) (H·Holdings .meaning (now self .holdings)) ⌝ }
+        ensures kept { λ _. ⌜ Kept (H·Holdings .ok (now (self .exit) .holdings)) (S·Scheme .meaning (now (self .exit) .scheme)) (H·Holdings .meaning (now (self .exit) .holdings)) ⌝ }
+        ensures scheme { λ _. ⌜ now (self .exit) .scheme ≡ now (self .entry) .scheme ⌝ }
+        ensures room { λ _. ⌜ H·HoldingsMut .room (now (self .exit) .holdings) ≡ H·HoldingsMut .room (now (self .entry) .holdings) ⌝ }
+        ensures answer { λ r. ⌜ told r ≡ bare (answer (S·Scheme .meaning (now (self .entry) .scheme)) (H·HoldingsMut .room (now (self .entry) .holdings)) (H·Holdings .meaning (now (self .entry) .holdings)) (dropping holder target right)) ⌝ }
+        ensures state { λ _. ⌜ H·Holdings .meaning (now (self .exit) .holdings) ≡ step (S·Scheme .meaning (now (self .entry) .scheme)) (H·HoldingsMut .room (now (self .entry) .holdings)) (H·Holdings .meaning (now (self .entry) .holdings)) (dropping holder target right) ⌝ }
+    {
+        check_parties(&self.scheme, &mut self.holdings, holder, target, right)?;
+        let held = self.holdings.tickets(holder, target);
+        if !held.has(Ticket { right, copy: false }) {
+            return Err(Refusal::NotHeld);
+        }
+        self.holdings.store(holder, target, held.without(right))
+    }
+
+    /// Retires an entity: it goes, with all that it holds and all tickets for it. Its number is never given again. Refused
+    /// where it does not stand.
+    pub fn retire(&mut self, entity: u32) -> Result<(), Refusal>
+        requires { ⌜ Kept (H·Holdings .ok (now self .holdings)) (S·Scheme .meaning (now self .scheme)) (H·Holdings .meaning (now self .holdings)) ⌝ }
+        ensures kept { λ _. ⌜ Kept (H·Holdings .ok (now (self .exit) .holdings)) (S·Scheme .meaning (now (self .exit) .scheme)) (H·Holdings .meaning (now (self .exit) .holdings)) ⌝ }
+        ensures scheme { λ _. ⌜ now (self .exit) .scheme ≡ now (self .entry) .scheme ⌝ }
+        ensures room { λ _. ⌜ H·HoldingsMut .room (now (self .exit) .holdings) ≡ H·HoldingsMut .room (now (self .entry) .holdings) ⌝ }
+        ensures answer { λ r. ⌜ told r ≡ bare (answer (S·Scheme .meaning (now (self .entry) .scheme)) (H·HoldingsMut .room (now (self .entry) .holdings)) (H·Holdings .meaning (now (self .entry) .holdings)) (retiring entity)) ⌝ }
+        ensures state { λ _. ⌜ H·Holdings .meaning (now (self .exit) .holdings) ≡ step (S·Scheme .meaning (now (self .entry) .scheme)) (H·HoldingsMut .room (now (self .entry) .holdings)) (H·Holdings .meaning (now (self .entry) .holdings)) (retiring entity) ⌝ }
+    {
+        let _ = self.holdings.find(entity).ok_or(Refusal::NotStanding)?;
+        self.holdings.remove(entity);
+        Ok(())
     }
 
     /// Whether the holder has the ticket for the target. Refused where holder or target does not stand, where the
