@@ -16,7 +16,7 @@ use Rattle.model.specs.State.{State, Room, standing, holds, filled, stored, sto
 use Rattle.model.specs.Calls.{Check, check, decide, passed, after, party-checks, gained, store-answer, Call, drop, retire, answer, step}
 use Rattle.model.specs.Laws.{Sound, Kept}
 use Rattle.model.proofs.Bits.{bit-zero}
-use Rattle.model.proofs.Checks.{All-hold, passed-all, decide-passed, decide-refused, bare-decide, after-bare}
+use Rattle.model.proofs.Checks.{All-hold, by-decide, passed-all, decide-all, decide-passed, decide-refused, bare-decide, after-bare}
 use Rattle.model.proofs.Soundness.{sound-step}
 
 -- a call keeps the standing invariant
@@ -105,3 +105,22 @@ module _ (S : Scheme) (R : Room) (st : State) (a y x : ℕ) (p : granted tt ≡ 
 -- an entity that stands is retired
 pub retire-granted : (S : Scheme) (R : Room) (st : State) (e : ℕ) → standing st e ≡ true → granted 0 ≡ answer S R st (retire e)
 retire-granted S R st e h = sym (cond-true (standing st e) (granted 0) (refused 1) h)
+
+-- an answer without its value tells the refusal
+pub bare-refused : (k : Answer ℕ) (m : ℕ) → refused m ≡ bare k → refused m ≡ k
+bare-refused (granted a) m e = let z : _≡_ {A = ℕ} 0 1 = cc in absurd (omega arith)
+bare-refused (refused n) m e = let q : m ≡ n = cc in ap refused q
+
+-- and where it tells a grant, the value is granted
+pub bare-granted : (cs : List Check) (a : ℕ) → granted tt ≡ bare (decide cs a) → granted a ≡ decide cs a
+bare-granted cs a e = sym (decide-all cs a (passed-all cs (sym (e ∙ bare-decide cs a))))
+
+-- what is granted is the value
+pub granted-is : (cs : List Check) (a i : ℕ) → granted i ≡ decide cs a → i ≡ a
+granted-is cs a i = by-decide (λ r. granted i ≡ r → i ≡ a) cs a (λ m. clash m) (λ _ e. inside e)
+  where
+    clash : (m : ℕ) → granted i ≡ refused m → i ≡ a
+    clash m e = let z : _≡_ {A = ℕ} 0 1 = cc in absurd (omega arith)
+
+    inside : granted i ≡ granted a → i ≡ a
+    inside e = cc

@@ -1,3 +1,4 @@
 mod Entries
 mod Fronts
 mod Lowest
+mod Copies
