@@ -7,7 +7,7 @@ use lib.Dec.{eqb}
 use Rattle.std.specs.declared.option.Option.{Option}
 use Rattle.std.specs.declared.option.Option.the-variants.{Some, None}
 use Rattle.std.proofs.shelf.Tests.{eqb-true, eq-eqb, both-ways, and-parts, and-from, or-cases, or-left, or-right, or-parts, cond-true, cond-both}
-use Rattle.model.specs.Tickets.{Tickets, has, join, ticket-of, none, Within}
+use Rattle.model.specs.Tickets.{Tickets, has, join, ticket-of, none, empty, Within}
 use Rattle.model.specs.Scheme.{Scheme, Part, Rule, Proper}
 use Rattle.model.specs.State.{Table, put, gain, without}
 use Rattle.model.specs.Calls.{without-right, give, give-second}
@@ -21,6 +21,13 @@ has-none x false = bit-zero x
 
 pub none-has : {A : Type 0} (x : ℕ) (c : Bool) → has none x c ≡ true → A
 none-has x c e = absurd (both-ways (has none x c) (has-none x c) e)
+
+-- an empty set has no ticket
+pub empty-has : {A : Type 0} (s : Tickets) → empty s ≡ true → (x : ℕ) (c : Bool) → has s x c ≡ true → A
+empty-has s e x c h =
+    let b = and-parts (eqb (s .plain) 0) (eqb (s .copyable) 0) e in
+    let n : s ≡ none = ap₂ (λ (p q : ℕ). record { plain = p; copyable = q }) (eqb-true (s .plain) 0 (b .0)) (eqb-true (s .copyable) 0 (b .1)) in
+    none-has x c (subst (λ (v : Tickets). has v x c ≡ true) n h)
 
 has-join : (s t : Tickets) (x : ℕ) (c : Bool) → has (join s t) x c ≡ (has s x c || has t x c)
 has-join s t x true = bit-or x (s .copyable) (t .copyable)
