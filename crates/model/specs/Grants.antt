@@ -117,7 +117,7 @@ pub record Creates (st : State) (r : Rule) (a : ℕ) (b : Option ℕ) (st′ : S
   pub tickets : (h y x : ℕ) (c : Bool)
       → Exactly (holds st′ h y x c ≡ true) ((holds st h y x c ≡ true) ⊎ Gives r a b (st .next) h y x c)
 
--- the laws: of every scheme, in every room and state, a copy and a demand are granted exactly when the model authorises them
+-- the laws: of every scheme, in every room and state, a copy and a demand are granted exactly when they are authorised and there is room
 abbrev pub Copies-exactly : Type 0
 Copies-exactly = (S : Scheme) (R : Room) (st : State) (a b y x : ℕ) (c : Bool) → Copy-exact S R st a b y x c (answer S R st (copy a b y x c))
 
@@ -133,10 +133,20 @@ abbrev pub Copies-by-lowest : Type 0
 Copies-by-lowest = (S : Scheme) (R : Room) (st : State) (a b y x : ℕ) (c : Bool) (i : ℕ)
     → answer S R st (copy a b y x c) ≡ granted i → Lowest-link S st a b y x c i
 
--- what a granted call leaves: a copy and a demand add the ticket; a creation, by the rule that authorises it, makes the child that it answers
+-- a granted copy and a granted demand add the ticket
+abbrev pub Copies-add : Type 0
+Copies-add = (S : Scheme) (R : Room) (st : State) (a b y x : ℕ) (c : Bool)
+    → Granted (answer S R st (copy a b y x c)) → Adds st b y (ticket-of x c) (step S R st (copy a b y x c))
+
+abbrev pub Demands-add : Type 0
+Demands-add = (S : Scheme) (R : Room) (st : State) (b y x : ℕ) (c : Bool)
+    → Granted (answer S R st (demand b y x c)) → Adds st b y (ticket-of x c) (step S R st (demand b y x c))
+
+-- a granted creation answers the child's number, and makes the child by the rule that authorises it
+abbrev pub Creations-add : Type 0
+Creations-add = (S : Scheme) → Well-formed S → (R : Room) (st : State) (a : ℕ) (b : Option ℕ) (k n : ℕ) (m : May-create S st a b k)
+    → answer S R st (create a b k) ≡ granted n → (n ≡ st .next) × Creates st (m .rule) a b (step S R st (create a b k))
+
+-- what each granted call adds
 abbrev pub Grants-add : Type 0
-Grants-add = (S : Scheme) (R : Room) (st : State)
-    → ((a b y x : ℕ) (c : Bool) → Granted (answer S R st (copy a b y x c)) → Adds st b y (ticket-of x c) (step S R st (copy a b y x c)))
-    × ((b y x : ℕ) (c : Bool) → Granted (answer S R st (demand b y x c)) → Adds st b y (ticket-of x c) (step S R st (demand b y x c)))
-    × (Well-formed S → (a : ℕ) (b : Option ℕ) (k n : ℕ) (m : May-create S st a b k) → answer S R st (create a b k) ≡ granted n
-    → (n ≡ st .next) × Creates st (m .rule) a b (step S R st (create a b k)))
+Grants-add = Copies-add × Demands-add × Creations-add

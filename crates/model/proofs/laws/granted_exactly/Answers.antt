@@ -7,5 +7,5 @@ returns c = record {
   demands = demand-exact;
   creates = λ S w R st a b k. create-exact S R st a b k w;
   lowest = copy-lowest;
-  adds = λ S R st. (copy-step S R st, demand-step S R st, create-step S R st);
+  adds = (copy-step, demand-step, λ S w R st. create-step S R st w);
 }
