@@ -6,7 +6,7 @@ use Prim.Native.Nat.{ℕ}
 use native.Mathlib.Omega.{arith}
 use Rattle.std.specs.declared.option.Option.{Option}
 use Rattle.std.specs.declared.option.Option.the-variants.{Some, None}
-use Rattle.std.proofs.shelf.Tests.{and-parts, cond-both, cond-true}
+use Rattle.std.proofs.shelf.Tests.{and-parts, cond-true, cond-both}
 use Rattle.model.specs.Refusals.{Answer, granted, refused, bare, refusal-number}
 use Rattle.model.specs.State.{State}
 use Rattle.model.specs.Calls.{Check, decide, passed, after, each}
@@ -23,12 +23,24 @@ by-decide P (c ∷ cs) a left made =
     cond-both (c .holds) (decide cs a) (refused (refusal-number (c .refusal))) P (λ e. by-decide P cs a left (λ h. made (e, h)))
     (λ _. left (refusal-number (c .refusal)))
 
+-- where every check holds the call is granted
+pub all-granted : {A : Type 0} (cs : List Check) (a : A) → All-hold cs → decide cs a ≡ granted a
+all-granted [] a h = refl
+all-granted (c ∷ cs) a h = cond-true (c .holds) (decide cs a) (refused (refusal-number (c .refusal))) (h .0) ∙ all-granted cs a (h .1)
+
+-- and where it is granted every check holds
+pub decided : {A : Type 0} (cs : List Check) (a b : A) → decide cs a ≡ granted b → All-hold cs × (a ≡ b)
+decided {A} cs a b = by-decide (λ r. r ≡ granted b → All-hold cs × (a ≡ b)) cs a (λ m h. absurd (clash m h)) (λ h e. (h, same e))
+  where
+    clash : (m : ℕ) → _≡_ {A = Answer A} (refused m) (granted b) → ⊥
+    clash m h = let z : _≡_ {A = ℕ} 0 1 = cc in omega arith
+
+    same : _≡_ {A = Answer A} (granted a) (granted b) → a ≡ b
+    same h = cc
+
 -- checks that are passed hold
 pub passed-all : (cs : List Check) → passed cs ≡ granted tt → All-hold cs
-passed-all cs e = by-decide (λ r. r ≡ granted tt → All-hold cs) cs tt (λ m h. absurd (clash m h)) (λ h _. h) e
-  where
-    clash : (m : ℕ) → _≡_ {A = Answer (Unit {0})} (refused m) (granted tt) → ⊥
-    clash m h = let z : _≡_ {A = ℕ} 0 1 = cc in omega arith
+passed-all cs e = decided cs tt tt e .0
 
 -- where the checks in front are passed, those behind decide
 pub decide-passed : {A : Type 0} (cs ds : List Check) (a : A) → passed cs ≡ granted tt → decide (cs ++ ds) a ≡ decide ds a
@@ -50,11 +62,6 @@ decide-refused (c ∷ cs) ds a n e = go (c .holds) (decide-refused cs ds a n) e
         → cond b (decide (cs ++ ds) a) (refused (refusal-number (c .refusal))) ≡ refused n
     go true f h = f h
     go false f h = let z : refusal-number (c .refusal) ≡ n = cc in ap refused z
-
--- where all checks are passed, the value is granted
-pub decide-all : {A : Type 0} (cs : List Check) (a : A) → All-hold cs → decide cs a ≡ granted a
-decide-all [] a h = refl
-decide-all (c ∷ cs) a h = cond-true (c .holds) (decide cs a) (refused (refusal-number (c .refusal))) (h .0) ∙ decide-all cs a (h .1)
 
 -- what is decided does not hang on the value that is granted
 pub bare-decide : {A : Type 0} (cs : List Check) (a : A) → bare (decide cs a) ≡ passed cs

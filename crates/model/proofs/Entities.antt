@@ -1,14 +1,14 @@
 -- The list of entities: numbers rise, and what a push and a removal leave.
-use mathlib.Core.Bool.{true, false, cond}
+use mathlib.Core.Bool.{Bool, true, false, cond, _&&_}
 use mathlib.Core.List.{List, [], _∷_, _++_}
 use mathlib.Core.Logic.{_⊎_, inl, inr}
-use mathlib.Core.Path.{_≡_, refl, sym, ap, _∙_}
+use mathlib.Core.Path.{_≡_, refl, sym, ap, subst, _∙_}
 use Prim.Native.Nat.{ℕ, suc, _<_, _≤_}
 use native.Mathlib.Omega.{arith}
 use lib.Dec.{eqb}
 use Rattle.std.specs.declared.option.Option.{Option}
 use Rattle.std.specs.declared.option.Option.the-variants.{Some, None}
-use Rattle.std.proofs.shelf.Tests.{eqb-true, eqb-false, eq-eqb, ne-eqb, cases-bool, both-ways, cond-true, cond-false, cond-both}
+use Rattle.std.proofs.shelf.Tests.{eqb-true, eqb-false, eq-eqb, ne-eqb, cases-bool, both-ways, and-parts, cond-true, cond-false, cond-both}
 use Rattle.std.proofs.shelf.Ways.{tells}
 use Rattle.std.specs.Options.{isSome}
 use Rattle.model.specs.declared.tickets.Entity.{Entity}
@@ -115,3 +115,17 @@ stands-below es n r e h = let q = some-inside (kind-in es e) h in rising-stands 
 -- who stood stands after a push, with the same kind
 pub pushed-kind : (es : List Entity) (f : Entity) (e : ℕ) → isSome (kind-in es e) ≡ true → kind-in (es ++ f ∷ []) e ≡ kind-in es e
 pushed-kind es f e h = let j = some-inside (kind-in es e) h in push-old es f e (j .0) (j .1) ∙ sym (j .1)
+
+-- every entity's number passes a test: then whoever stands passes it
+abbrev pub each-passes : (ℕ → Bool) → List Entity → Bool
+each-passes p [] = true
+each-passes p (f ∷ fs) = p (f .number) && each-passes p fs
+
+pub stands-passes : (p : ℕ → Bool) (es : List Entity) → each-passes p es ≡ true → (e : ℕ) → isSome (kind-in es e) ≡ true → p e ≡ true
+stands-passes p [] t e h = absurd (both-ways false refl h)
+stands-passes p (f ∷ es) t e h =
+    let b = and-parts (p (f .number)) (each-passes p es) t in
+    elim (cases-bool (eqb (f .number) e)) [
+      | inl q ↦ subst (λ (n : ℕ). p n ≡ true) (eqb-true (f .number) e q) (b .0)
+      | inr q ↦ stands-passes p es (b .1) e (sym (ap isSome (cond-false (eqb (f .number) e) (Some (f .kind)) (kind-in es e) q)) ∙ h)
+    ]

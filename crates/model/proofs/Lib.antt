@@ -4,3 +4,6 @@ pub mod Entities
 pub mod Checks
 pub mod Tables
 pub mod Soundness
+pub mod Lowest
+pub mod RuleNumbers
+pub mod Grants

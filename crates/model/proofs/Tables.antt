@@ -6,11 +6,12 @@ use Prim.Native.Nat.{ℕ, _<_}
 use lib.Dec.{eqb}
 use Rattle.std.specs.declared.option.Option.{Option}
 use Rattle.std.specs.declared.option.Option.the-variants.{Some, None}
-use Rattle.std.proofs.shelf.Tests.{eqb-true, both-ways, and-parts, and-from, or-cases, or-left, or-right, or-parts, cond-both}
-use Rattle.model.specs.Tickets.{Tickets, has, join, ticket-of, none, Within}
+use Rattle.std.proofs.shelf.Tests.{eqb-true, eq-eqb, both-ways, and-parts, and-from, or-cases, or-left, or-right, or-parts, cond-true, cond-both}
+use Rattle.model.specs.Tickets.{Tickets, has, join, ticket-of, none, empty, Within}
 use Rattle.model.specs.Scheme.{Scheme, Part, Rule, Proper}
 use Rattle.model.specs.State.{Table, put, gain, without}
 use Rattle.model.specs.Calls.{without-right, give, give-second}
+use Rattle.model.specs.Spread.{Contains}
 use Rattle.model.proofs.Bits.{bit-zero, bit-or, bit-pow, bit-less}
 
 -- what a set has: none, a join, a set with a right less, one ticket
@@ -20,6 +21,13 @@ has-none x false = bit-zero x
 
 pub none-has : {A : Type 0} (x : ℕ) (c : Bool) → has none x c ≡ true → A
 none-has x c e = absurd (both-ways (has none x c) (has-none x c) e)
+
+-- an empty set has no ticket
+pub empty-has : {A : Type 0} (s : Tickets) → empty s ≡ true → (x : ℕ) (c : Bool) → has s x c ≡ true → A
+empty-has s e x c h =
+    let b = and-parts (eqb (s .plain) 0) (eqb (s .copyable) 0) e in
+    let n : s ≡ none = ap₂ (λ (p q : ℕ). record { plain = p; copyable = q }) (eqb-true (s .plain) 0 (b .0)) (eqb-true (s .copyable) 0 (b .1)) in
+    none-has x c (subst (λ (v : Tickets). has v x c ≡ true) n h)
 
 has-join : (s t : Tickets) (x : ℕ) (c : Bool) → has (join s t) x c ≡ (has s x c || has t x c)
 has-join s t x true = bit-or x (s .copyable) (t .copyable)
@@ -79,6 +87,25 @@ proper-ticket S x c l = record {
 -- two pairs are the same
 same-pair : (a b h y : ℕ) → (eqb a h && eqb b y) ≡ true → (a ≡ h) × (b ≡ y)
 same-pair a b h y e = let p = and-parts (eqb a h) (eqb b y) e in (eqb-true a h (p .0), eqb-true b y (p .1))
+
+-- what a gain leaves: what there was, and the set that is gained
+module _ (t : Table) (h y : ℕ) (s : Tickets) where
+  pub gain-cases : (a b x : ℕ) (c : Bool) → has (gain t h y s a b) x c ≡ true → (has (t a b) x c ≡ true) ⊎ ((a ≡ h) × (b ≡ y) × (has s x c ≡ true))
+  gain-cases a b x c =
+      cond-both (eqb a h && eqb b y) (join (t h y) s) (t a b) (λ v. has v x c ≡ true → (has (t a b) x c ≡ true) ⊎ ((a ≡ h) × (b ≡ y) × (has s x c ≡ true)))
+      (λ e k. let p = same-pair a b h y e in elim (join-cases (t h y) s x c k) [ inl l ↦ inl (rw (p .0, p .1) l) | inr r ↦ inr (p .0, p .1, r) ])
+      (λ e k. inl k)
+
+  pub gain-keeps : Contains (gain t h y s) t
+  gain-keeps a b x c k =
+      cond-both (eqb a h && eqb b y) (join (t h y) s) (t a b) (λ v. has v x c ≡ true)
+      (λ e. let p = same-pair a b h y e in join-left (t h y) s x c (rw (← p .0, ← p .1) k))
+      (λ e. k)
+
+  pub gain-at : Within s (gain t h y s h y)
+  gain-at x c k =
+      let here = cond-true (eqb h h && eqb y y) (join (t h y) s) (t h y) (and-from (eqb h h) (eqb y y) (eq-eqb h h refl) (eq-eqb y y refl)) in
+      subst (λ (v : Tickets). has v x c ≡ true) (sym here) (join-right (t h y) s x c k)
 
 -- what is asked of a set at a holder and a target: it lasts where sets are joined, and holds of none
 abbrev pub Place : Type 1
@@ -147,3 +174,57 @@ module _ (Q : Place) where
         cond-both (eqb a e || eqb b e) none (t a b) (λ u. Q a b u)
         (λ _. laws .of-none a b)
         (λ z. let p = or-parts (eqb a e) (eqb b e) z in i a b (p .0) (p .1) (f a b))
+
+-- a creation takes nothing away, and every set that it gives is then in its place
+module _ (n : ℕ) where
+  give-keeps : (t : Table) (p : Part) (a : ℕ) → Contains (give t p a n) t
+  give-keeps t p a h y x c e =
+      let t1 : Table = gain t a n (p .for-child) in
+      let t2 : Table = gain t1 a a (p .for-self) in
+      gain-keeps t2 n a (p .to-child) h y x c (gain-keeps t1 a a (p .for-self) h y x c (gain-keeps t a n (p .for-child) h y x c e))
+
+  give-gives : (t : Table) (p : Part) (a : ℕ) (u : Table) → Contains u (give t p a n) → Given-part (λ h y s. Within s (u h y)) p a n
+  give-gives t p a u f =
+      let t1 : Table = gain t a n (p .for-child) in
+      let t2 : Table = gain t1 a a (p .for-self) in
+      record {
+        for-child = λ x c e.
+            f a n x c (gain-keeps t2 n a (p .to-child) a n x c (gain-keeps t1 a a (p .for-self) a n x c (gain-at t a n (p .for-child) x c e)));
+        for-self = λ x c e. f a a x c (gain-keeps t2 n a (p .to-child) a a x c (gain-at t1 a a (p .for-self) x c e));
+        to-child = λ x c e. f n a x c (gain-at t2 n a (p .to-child) x c e);
+      }
+
+  second-keeps : (t : Table) (p : Option Part) (b : Option ℕ) → Contains (give-second t p b n) t
+  second-keeps t (Some p) (Some b) h y x c e = give-keeps t p b h y x c e
+  second-keeps t (Some p) None h y x c e = e
+  second-keeps t None (Some b) h y x c e = e
+  second-keeps t None None h y x c e = e
+
+  second-gives : (t : Table) (p : Option Part) (b : Option ℕ) (u : Table) → Contains u (give-second t p b n) → Given-second (λ h y s. Within s (u h y)) p b n
+  second-gives t (Some p) (Some b) u f = give-gives t p b u f
+  second-gives t (Some p) None u f = tt
+  second-gives t None (Some b) u f = tt
+  second-gives t None None u f = tt
+
+  module _ (t : Table) (r : Rule) (a : ℕ) (b : Option ℕ) where
+    abbrev by-first : Table
+    by-first = give t (r .first) a n
+
+    abbrev by-both : Table
+    by-both = give-second by-first (r .second) b n
+
+    both-kept : Contains (after-birth t r a b n) by-both
+    both-kept = gain-keeps by-both n n (r .own)
+
+    first-kept : Contains (after-birth t r a b n) by-first
+    first-kept h y x c e = both-kept h y x c (second-keeps by-first (r .second) b h y x c e)
+
+    pub birth-keeps : Contains (after-birth t r a b n) t
+    birth-keeps h y x c e = first-kept h y x c (give-keeps t (r .first) a h y x c e)
+
+    pub birth-gives : Given (λ h y s. Within s (after-birth t r a b n h y)) r a b n
+    birth-gives = record {
+      first = give-gives t (r .first) a (after-birth t r a b n) first-kept;
+      second = second-gives by-first (r .second) b (after-birth t r a b n) both-kept;
+      own = gain-at by-both n n (r .own);
+    }

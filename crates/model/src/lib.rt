@@ -5,6 +5,7 @@ mod rules;
 mod ticket_set;
 mod tickets;
 
+pub use laws::granted_exactly;
 pub use laws::stays_sound;
 pub use refusal::Refusal;
 pub use refusal::RefusalDisplay;

@@ -11,9 +11,9 @@ use Rattle.model.specs.Refusals.{Answer, granted, refused, bare}
 use Rattle.model.specs.Scheme.{Scheme}
 use Rattle.model.specs.State.{State, kind, standing, holds}
 use Rattle.model.specs.Calls.{Check, check, decide, passed, sight, first-link, passing-link}
-use Rattle.model.proofs.Checks.{All-hold, passed-all, decide-passed, bare-decide}
+use Rattle.model.proofs.Checks.{decided, passed-all, decide-passed, bare-decide}
 use Rattle.register.specs.Passing.{copy-party-checks, lowest-answer}
-use Rattle.register.proofs.Fronts.{next-passed, granted-is}
+use Rattle.register.proofs.Fronts.{next-passed}
 
 -- the lowest link by what was seen and the kinds that were found is the state's
 pub lowest-in : (S : Scheme) (st : State) (a b y x : ℕ) (c : Bool) (v : Sight) (ka kb ky : ℕ) → v ≡ sight S st a b → ka ≡ kind st a → kb ≡ kind st b → ky ≡ kind st y
@@ -57,4 +57,4 @@ module _ (S : Scheme) (st : State) (a b y x : ℕ) (c : Bool) where
       links-passed i e = ap bare e ∙ bare-decide links (valueOr (passing-link S st a b y x c) 0) ∙ sym onwards
 
   pub link-is : (i : ℕ) → granted i ≡ lowest → i ≡ valueOr (passing-link S st a b y x c) 0
-  link-is i e = granted-is links (valueOr (passing-link S st a b y x c) 0) i e
+  link-is i e = sym (decided links (valueOr (passing-link S st a b y x c) 0) i (sym e) .1)

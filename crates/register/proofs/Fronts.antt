@@ -16,7 +16,7 @@ use Rattle.model.specs.State.{State, Room, standing, holds, filled, stored, sto
 use Rattle.model.specs.Calls.{Check, check, decide, passed, after, party-checks, gained, store-answer, Call, drop, retire, answer, step}
 use Rattle.model.specs.Laws.{Sound, Kept}
 use Rattle.model.proofs.Bits.{bit-zero}
-use Rattle.model.proofs.Checks.{All-hold, by-decide, passed-all, decide-all, decide-passed, decide-refused, bare-decide, after-bare}
+use Rattle.model.proofs.Checks.{All-hold, passed-all, all-granted, decide-passed, decide-refused, bare-decide, after-bare}
 use Rattle.model.proofs.Soundness.{sound-step}
 
 -- a call keeps the standing invariant
@@ -113,14 +113,4 @@ bare-refused (refused n) m e = let q : m ≡ n = cc in ap refused q
 
 -- and where it tells a grant, the value is granted
 pub bare-granted : (cs : List Check) (a : ℕ) → granted tt ≡ bare (decide cs a) → granted a ≡ decide cs a
-bare-granted cs a e = sym (decide-all cs a (passed-all cs (sym (e ∙ bare-decide cs a))))
-
--- what is granted is the value
-pub granted-is : (cs : List Check) (a i : ℕ) → granted i ≡ decide cs a → i ≡ a
-granted-is cs a i = by-decide (λ r. granted i ≡ r → i ≡ a) cs a (λ m. clash m) (λ _ e. inside e)
-  where
-    clash : (m : ℕ) → granted i ≡ refused m → i ≡ a
-    clash m e = let z : _≡_ {A = ℕ} 0 1 = cc in absurd (omega arith)
-
-    inside : granted i ≡ granted a → i ≡ a
-    inside e = cc
+bare-granted cs a e = sym (all-granted cs a (passed-all cs (sym (e ∙ bare-decide cs a))))

@@ -1,4 +1,5 @@
 mod Entries
 mod Fronts
-mod Lowest
+mod Linking
 mod Copies
+mod Played

@@ -4,7 +4,7 @@ use native.Mathlib.Omega.{arith}
 use Rattle.std.specs.Options.{isSome}
 use Rattle.model.specs.Tickets.{has, Tickets}
 use Rattle.model.specs.Calls.{first, upto}
-use Rattle.register.proofs.Lowest.{link-found, link-passed-over, link-off}
+use Rattle.register.proofs.Linking.{link-found, link-passed-over, link-off}
 use Rattle.register.proofs.links.lowest_link.Needs as need
 use Rattle.register.proofs.links.lowest_link.Needs.{then-link·else-has, else-link}
 

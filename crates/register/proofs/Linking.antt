@@ -1,4 +1,4 @@
--- The first number that passes a test, among the numbers below n.
+-- Going through the links of a scheme, lowest first, until one holds and passes.
 use mathlib.Core.Bool.{Bool, true, false, cond, _&&_}
 use mathlib.Core.List.{List, [], _∷_, _++_}
 use mathlib.Core.Path.{_≡_, refl, sym, ap, _∙_}
@@ -17,11 +17,7 @@ use Rattle.model.specs.Scheme.{Scheme}
 use Rattle.model.specs.Calls.{first, upto}
 use Rattle.register.specs.Passing.{lets, lowest-answer}
 use Rattle.model.proofs.Entities.{or-else}
-
--- one number more at the end
-first-push : (p : ℕ → Bool) (is : List ℕ) (j : ℕ) → first p (is ++ j ∷ []) ≡ or-else (first p is) (cond (p j) (Some j) None)
-first-push p [] j = refl
-first-push p (i ∷ is) j = elim (cases-bool (p i)) [ inl h ↦ rw h refl | inr h ↦ rw h (first-push p is j) ]
+use Rattle.model.proofs.Lowest.{first-push}
 
 module _ (p : ℕ → Bool) (n : ℕ) where
   first-suc : first p (upto (n + 1)) ≡ or-else (first p (upto n)) (cond (p n) (Some n) None)
