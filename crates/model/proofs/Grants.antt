@@ -16,7 +16,7 @@ use Rattle.model.specs.Tickets.{Tickets, has, ticket-of, Within}
 use Rattle.model.specs.Scheme.{Scheme, Rule, Part, Well-formed, same-second, rule-number}
 use Rattle.model.specs.State.{State, Room, kind-of, standing, kind, subject, holds, gain, holding, stores, filled, last-number}
 use Rattle.model.specs.Calls.{Call, copy, demand, create, after, answer, checks, reply, effect, step, linked, passes, gained, first, upto, each, rule-for, rule-found, born, born-by, child-state}
-use Rattle.model.specs.Grants.{May-copy, May-demand, Second-fits, May-create, Has-room, Exactly, Granted, Copy-exact, Demand-exact, Create-exact, Lowest-link, Adds, Gives, first-C, first-S, second-C, second-S, first-G, second-G, own-H, Creates}
+use Rattle.model.specs.Grants.{May-copy, May-demand, Second-fits, May-create, Has-room, Exactly, Granted, Copy-exact, Demand-exact, Create-exact, Copied, Demanded, Created, Lowest-link, Adds, Creates, Gives, first-C, first-S, second-C, second-S, first-G, second-G, own-H, Creates}
 use Rattle.model.proofs.Entities.{some-inside}
 use Rattle.model.proofs.Checks.{All-hold, all-granted, decided, each-first, each-second}
 use Rattle.model.proofs.Lowest.{found, lowest}
@@ -301,3 +301,32 @@ module _ (S : Scheme) (R : Room) (st : State) where
     sym (passed-checks S R st (create a b k) n e .1),
     subst (Creates st (m .rule) a b) (step-granted (create a b k) n e) (create-adds st (m .rule) a b S k (rule-found-is S R st a b k w m)),
   )
+
+-- the same of an answer and a state that are the call's
+pub copied : (S : Scheme) (R : Room) (st : State) (a b y x : ℕ) (c : Bool) (r : Answer ℕ) (st′ : State) → r ≡ answer S R st (copy a b y x c)
+    → st′ ≡ step S R st (copy a b y x c) → Copied S R st a b y x c r st′
+copied S R st a b y x c r st′ e is = record {
+  exact = subst (λ (q : Answer ℕ). Copy-exact S R st a b y x c q) (sym e) (copy-exact S R st a b y x c);
+  lowest = λ i g. copy-lowest S R st a b y x c i (sym e ∙ g);
+  adds = λ g. subst (Adds st b y (ticket-of x c)) (sym is) (copy-step S R st a b y x c (g .0, sym e ∙ g .1));
+}
+
+pub demanded : (S : Scheme) (R : Room) (st : State) (b y x : ℕ) (c : Bool) (r : Answer (Unit {0})) (st′ : State) → r ≡ bare (answer S R st (demand b y x c))
+    → st′ ≡ step S R st (demand b y x c) → Demanded S R st b y x c r st′
+demanded S R st b y x c r st′ e is =
+    let k = answer S R st (demand b y x c) in
+    let x′ = bare-exact k (demand-exact S R st b y x c) in
+    record {
+      exact = subst (λ (q : Answer (Unit {0})). Demand-exact S R st b y x c q) (sym e) x′;
+      adds = λ g. subst (Adds st b y (ticket-of x c)) (sym is)
+          (demand-step S R st b y x c (demand-exact S R st b y x c .whenever (x′ .only (g .0, sym e ∙ g .1))));
+    }
+
+pub created : (S : Scheme) → Well-formed S → (R : Room) (st : State) (a : ℕ) (b : Option ℕ) (k : ℕ) (r : Answer ℕ) (st′ : State)
+    → r ≡ answer S R st (create a b k) → st′ ≡ step S R st (create a b k) → Created S R st a b k r st′
+created S w R st a b k r st′ e is = record {
+  exact = subst (λ (q : Answer ℕ). Create-exact S R st a b k q) (sym e) (create-exact S R st a b k w);
+  makes = λ n m g.
+      let c = create-step S R st w a b k n m (sym e ∙ g) in
+      (c .0, subst (Creates st (m .rule) a b) (sym is) (c .1));
+}

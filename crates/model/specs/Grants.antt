@@ -117,6 +117,24 @@ pub record Creates (st : State) (r : Rule) (a : ℕ) (b : Option ℕ) (st′ : S
   pub tickets : (h y x : ℕ) (c : Bool)
       → Exactly (holds st′ h y x c ≡ true) ((holds st h y x c ≡ true) ⊎ Gives r a b (st .next) h y x c)
 
+-- a copy that was answered with r and left st′: granted exactly when it is authorised and there is a pair for it; then by the lowest
+-- link that holds and passes, and it adds exactly the ticket
+pub record Copied (S : Scheme) (R : Room) (st : State) (a b y x : ℕ) (c : Bool) (r : Answer ℕ) (st′ : State) : Type 0 where
+  pub exact : Copy-exact S R st a b y x c r
+  pub lowest : (i : ℕ) → r ≡ granted i → Lowest-link S st a b y x c i
+  pub adds : Granted r → Adds st b y (ticket-of x c) st′
+
+-- a demand likewise: granted exactly when it is authorised and there is a pair for it, and then it adds exactly the ticket
+pub record Demanded (S : Scheme) (R : Room) (st : State) (b y x : ℕ) (c : Bool) (r : Answer (Unit {0})) (st′ : State) : Type 0 where
+  pub exact : Demand-exact S R st b y x c r
+  pub adds : Granted r → Adds st b y (ticket-of x c) st′
+
+-- and a creation: granted exactly when a rule authorises it that there is room for; then it answers the next number, and makes the
+-- child and gives the tickets by that rule
+pub record Created (S : Scheme) (R : Room) (st : State) (a : ℕ) (b : Option ℕ) (k : ℕ) (r : Answer ℕ) (st′ : State) : Type 0 where
+  pub exact : Create-exact S R st a b k r
+  pub makes : (n : ℕ) (m : May-create S st a b k) → r ≡ granted n → (n ≡ st .next) × Creates st (m .rule) a b st′
+
 -- the laws: of every scheme, in every room and state, a copy and a demand are granted exactly when they are authorised and there is room
 abbrev pub Copies-exactly : Type 0
 Copies-exactly = (S : Scheme) (R : Room) (st : State) (a b y x : ℕ) (c : Bool) → Copy-exact S R st a b y x c (answer S R st (copy a b y x c))

@@ -1,5 +1,5 @@
 mod Entries
 mod Fronts
 mod Linking
-mod Copies
+mod CopyChecks
 mod Played

@@ -1,11 +1,12 @@
 //! The register: a set-up, in which entities are entered and tickets placed by hand, and the open register that it
 //! becomes for good. Both work over any scheme and any holdings that can be changed.
 mod asking;
+mod copies;
 mod examples;
-mod gaining;
-mod links;
+mod gains;
 mod open;
 mod set_up;
+mod takes;
 
 pub use asking::question;
 pub use examples::worked_examples;

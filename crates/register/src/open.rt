@@ -2,13 +2,12 @@
 ghost use mathlib.Core.Path.{_≡_};
 ghost use Rattle.model.specs.Refusals.{told, bare};
 ghost use Rattle.model.specs.Calls.{question-answer, answer, step, copy as copying, demand as demanding, drop as dropping, retire as retiring};
+ghost use Rattle.model.specs.Grants.{Copied, Demanded};
 ghost use Rattle.model.specs.Laws.{Kept};
-use super::asking::check_parties;
-use super::asking::question;
-use super::gaining::gain;
-use super::links::check_copy_parties;
-use super::links::lowest_link;
-use super::links::sight;
+use super::asking;
+use super::copies;
+use super::gains;
+use super::takes;
 use holdings::Holdings;
 use holdings::HoldingsMut;
 use model::Entity;
@@ -45,19 +44,9 @@ impl<S: Scheme, H: HoldingsMut> Register<S, H> {
         ensures room { λ _. ⌜ H·HoldingsMut .room (now (self .exit) .holdings) ≡ H·HoldingsMut .room (now (self .entry) .holdings) ⌝ }
         ensures answer { λ r. ⌜ told r ≡ answer (S·Scheme .meaning (now (self .entry) .scheme)) (H·HoldingsMut .room (now (self .entry) .holdings)) (H·Holdings .meaning (now (self .entry) .holdings)) (copying giver taker target (ticket .right) (ticket .copy)) ⌝ }
         ensures state { λ _. ⌜ H·Holdings .meaning (now (self .exit) .holdings) ≡ step (S·Scheme .meaning (now (self .entry) .scheme)) (H·HoldingsMut .room (now (self .entry) .holdings)) (H·Holdings .meaning (now (self .entry) .holdings)) (copying giver taker target (ticket .right) (ticket .copy)) ⌝ }
+        ensures model { λ r. ⌜ Copied (S·Scheme .meaning (now (self .entry) .scheme)) (H·HoldingsMut .room (now (self .entry) .holdings)) (H·Holdings .meaning (now (self .entry) .holdings)) giver taker target (ticket .right) (ticket .copy) (told r) (H·Holdings .meaning (now (self .exit) .holdings)) ⌝ }
     {
-        let kinds = check_copy_parties(&self.scheme, &mut self.holdings, giver, taker, target, ticket.right)?;
-        let copyable = Ticket {
-            right: ticket.right,
-            copy: true,
-        };
-        if !self.holdings.tickets(giver, target).has(copyable) {
-            return Err(Refusal::NotCopyable);
-        }
-        let seen = sight(&self.scheme, &mut self.holdings, giver, taker);
-        let link = lowest_link(&self.scheme, seen, kinds.giver, kinds.taker, kinds.target, ticket)?;
-        gain(&mut self.holdings, taker, target, ticket)?;
-        Ok(link)
+        copies::copy(&self.scheme, &mut self.holdings, giver, taker, target, ticket)
     }
 
     /// Gives the demander a ticket for the target that the scheme lets it demand. Refused where demander or target does not
@@ -70,12 +59,9 @@ impl<S: Scheme, H: HoldingsMut> Register<S, H> {
         ensures room { λ _. ⌜ H·HoldingsMut .room (now (self .exit) .holdings) ≡ H·HoldingsMut .room (now (self .entry) .holdings) ⌝ }
         ensures answer { λ r. ⌜ told r ≡ bare (answer (S·Scheme .meaning (now (self .entry) .scheme)) (H·HoldingsMut .room (now (self .entry) .holdings)) (H·Holdings .meaning (now (self .entry) .holdings)) (demanding demander target (ticket .right) (ticket .copy))) ⌝ }
         ensures state { λ _. ⌜ H·Holdings .meaning (now (self .exit) .holdings) ≡ step (S·Scheme .meaning (now (self .entry) .scheme)) (H·HoldingsMut .room (now (self .entry) .holdings)) (H·Holdings .meaning (now (self .entry) .holdings)) (demanding demander target (ticket .right) (ticket .copy)) ⌝ }
+        ensures model { λ r. ⌜ Demanded (S·Scheme .meaning (now (self .entry) .scheme)) (H·HoldingsMut .room (now (self .entry) .holdings)) (H·Holdings .meaning (now (self .entry) .holdings)) demander target (ticket .right) (ticket .copy) (told r) (H·Holdings .meaning (now (self .exit) .holdings)) ⌝ }
     {
-        let kinds = check_parties(&self.scheme, &mut self.holdings, demander, target, ticket.right)?;
-        if !self.scheme.demand(kinds.holder, kinds.target).has(ticket) {
-            return Err(Refusal::NotDemandable);
-        }
-        gain(&mut self.holdings, demander, target, ticket)
+        gains::demand(&self.scheme, &mut self.holdings, demander, target, ticket)
     }
 
     /// Takes a right for the target from the holder, plain and copyable. Refused where holder or target does not stand,
@@ -88,12 +74,7 @@ impl<S: Scheme, H: HoldingsMut> Register<S, H> {
         ensures answer { λ r. ⌜ told r ≡ bare (answer (S·Scheme .meaning (now (self .entry) .scheme)) (H·HoldingsMut .room (now (self .entry) .holdings)) (H·Holdings .meaning (now (self .entry) .holdings)) (dropping holder target right)) ⌝ }
         ensures state { λ _. ⌜ H·Holdings .meaning (now (self .exit) .holdings) ≡ step (S·Scheme .meaning (now (self .entry) .scheme)) (H·HoldingsMut .room (now (self .entry) .holdings)) (H·Holdings .meaning (now (self .entry) .holdings)) (dropping holder target right) ⌝ }
     {
-        check_parties(&self.scheme, &mut self.holdings, holder, target, right)?;
-        let held = self.holdings.tickets(holder, target);
-        if !held.has(Ticket { right, copy: false }) {
-            return Err(Refusal::NotHeld);
-        }
-        self.holdings.store(holder, target, held.without(right))
+        takes::drop_ticket(&self.scheme, &mut self.holdings, holder, target, right)
     }
 
     /// Retires an entity: it goes, with all that it holds and all tickets for it. Its number is never given again. Refused
@@ -106,9 +87,7 @@ impl<S: Scheme, H: HoldingsMut> Register<S, H> {
         ensures answer { λ r. ⌜ told r ≡ bare (answer (S·Scheme .meaning (now (self .entry) .scheme)) (H·HoldingsMut .room (now (self .entry) .holdings)) (H·Holdings .meaning (now (self .entry) .holdings)) (retiring entity)) ⌝ }
         ensures state { λ _. ⌜ H·Holdings .meaning (now (self .exit) .holdings) ≡ step (S·Scheme .meaning (now (self .entry) .scheme)) (H·HoldingsMut .room (now (self .entry) .holdings)) (H·Holdings .meaning (now (self .entry) .holdings)) (retiring entity) ⌝ }
     {
-        let _ = self.holdings.find(entity).ok_or(Refusal::NotStanding)?;
-        self.holdings.remove(entity);
-        Ok(())
+        takes::retire(&mut self.holdings, entity)
     }
 
     /// Whether the holder has the ticket for the target. Refused where holder or target does not stand, where the
@@ -118,7 +97,7 @@ impl<S: Scheme, H: HoldingsMut> Register<S, H> {
         ensures same { λ _. ⌜ now (self .exit) ≡ now (self .entry) ⌝ }
         ensures answer { λ r. ⌜ told r ≡ question-answer (S·Scheme .meaning (now (self .entry) .scheme)) (H·Holdings .meaning (now (self .entry) .holdings)) holder target (ticket .right) (ticket .copy) ⌝ }
     {
-        question(&self.scheme, &mut self.holdings, holder, target, ticket)
+        asking::question(&self.scheme, &mut self.holdings, holder, target, ticket)
     }
 }
 

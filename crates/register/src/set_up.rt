@@ -5,7 +5,7 @@ ghost use Rattle.model.specs.State.{new};
 ghost use Rattle.model.specs.SetUp.{enter as entering, place as placing, entry-answer, entry-step};
 ghost use Rattle.model.specs.Laws.{Kept};
 use super::asking::check_parties;
-use super::gaining::gain;
+use super::gains::gain;
 use super::open::Register;
 use holdings::Holdings;
 use holdings::HoldingsMut;

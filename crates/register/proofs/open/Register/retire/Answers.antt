@@ -1,10 +1,7 @@
-use mathlib.Core.Bool.{true}
-use mathlib.Core.Path.{_≡_, refl, sym, ap, _∙_}
-use Rattle.std.specs.Options.{isSome}
-use Rattle.model.specs.Refusals.{bare}
-use Rattle.model.specs.State.{standing, removed}
-use Rattle.model.specs.Calls.{after, retire as retiring}
-use Rattle.register.proofs.Fronts.{call-kept, retire-granted}
+use mathlib.Core.Path.{refl}
+use Rattle.model.specs.Refusals.{told}
+use Rattle.model.specs.Calls.{retire as retiring}
+use Rattle.register.proofs.Fronts.{call-kept}
 use Rattle.register.proofs.open.Register.retire.Needs as need
 
 pub returns : need.returns
@@ -14,15 +11,11 @@ returns g c =
     let R = g .H·HoldingsMut .room h in
     let st = g .H·Holdings .meaning h in
     let w = g .S·Scheme .lawful (c .args .self .now .scheme) in
-    let e = c .args .entity in
-    let same = c .find .ensures .same in
-    let stands : standing st e ≡ true = ap isSome (sym (c .find .ensures .value) ∙ c .in-Continue-ok-or .ensures tt .back) in
-    let yes = retire-granted S R st e stands in
-    let state = c .remove .ensures .state ∙ ap (λ z. removed (g .H·Holdings .meaning z) e) same ∙ ap (λ r. after r (removed st e) st) yes in
+    let e = c .retire .ensures in
     record {
-      kept = call-kept S R st _ (c .remove .ensures .ok) w (c .pre .sound) (retiring e) _ state;
+      kept = call-kept S R st _ (e .ok) w (c .pre .sound) (retiring (c .args .entity)) _ (e .state S);
       scheme = refl;
-      room = c .remove .ensures .room ∙ ap (g .H·HoldingsMut .room) same;
-      answer = ap bare yes;
-      state = state;
+      room = e .room;
+      answer = e .answer S;
+      state = e .state S;
     }

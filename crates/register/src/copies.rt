@@ -1,11 +1,13 @@
-//! What a copy looks at: its three parties, what links see, and the lowest link that passes a ticket.
+//! Copying: its three parties, what links see, the lowest link that passes a ticket, and the copy itself.
 ghost use mathlib.Core.Path.{_≡_};
 ghost use Rattle.std.specs.Vec.{made};
 ghost use Rattle.model.specs.Refusals.{told, bare};
 ghost use Rattle.model.specs.State.{kind};
-ghost use Rattle.model.specs.Calls.{passed, sight};
+ghost use Rattle.model.specs.Calls.{passed, sight, answer, step, copy as copying};
 ghost use Rattle.register.specs.Passing.{copy-party-checks, lowest-answer};
+use super::gains::gain;
 use holdings::Holdings;
+use holdings::HoldingsMut;
 use model::Refusal;
 use model::Sight;
 use model::Ticket;
@@ -13,14 +15,14 @@ use scheme::Scheme;
 
 // The kinds of a copy's giver, taker and target.
 #[derive(Clone, Copy)]
-pub(crate) struct CopyParties {
+struct CopyParties {
     pub giver: u8,
     pub taker: u8,
     pub target: u8,
 }
 
 // What a copy checks first: giver, taker and target stand, giver and taker are subjects, and the scheme has the right.
-pub(crate) fn check_copy_parties<S: Scheme, H: Holdings>(scheme: &S, holdings: &mut H, giver: u32, taker: u32, target: u32, right: u8) -> Result<CopyParties, Refusal>
+fn check_copy_parties<S: Scheme, H: Holdings>(scheme: &S, holdings: &mut H, giver: u32, taker: u32, target: u32, right: u8) -> Result<CopyParties, Refusal>
     requires { ⌜ H·Holdings .ok (now holdings) ⌝ }
     ensures same { λ _. ⌜ now (holdings .exit) ≡ now (holdings .entry) ⌝ }
     ensures answer { λ r. ⌜ bare (told r) ≡ passed (copy-party-checks (S·Scheme .meaning (now (scheme .entry))) (H·Holdings .meaning (now (holdings .entry))) giver taker target right) ⌝ }
@@ -44,7 +46,7 @@ pub(crate) fn check_copy_parties<S: Scheme, H: Holdings>(scheme: &S, holdings: &
 }
 
 // What a link from one entity to another looks at: their control rights for themselves and each other.
-pub(crate) fn sight<S: Scheme, H: Holdings>(scheme: &S, holdings: &mut H, x: u32, y: u32) -> Sight
+fn sight<S: Scheme, H: Holdings>(scheme: &S, holdings: &mut H, x: u32, y: u32) -> Sight
     requires { ⌜ H·Holdings .ok (now holdings) ⌝ }
     ensures same { λ _. ⌜ now (holdings .exit) ≡ now (holdings .entry) ⌝ }
     ensures value { λ r. ⌜ r ≡ sight (S·Scheme .meaning (now (scheme .entry))) (H·Holdings .meaning (now (holdings .entry))) x y ⌝ }
@@ -60,7 +62,7 @@ pub(crate) fn sight<S: Scheme, H: Holdings>(scheme: &S, holdings: &mut H, x: u32
 
 // The lowest link that holds and whose filter passes the ticket. Refused where no link holds, and then where none
 // that holds passes it.
-pub(crate) fn lowest_link<S: Scheme>(scheme: &S, sight: Sight, giver: u8, taker: u8, target: u8, ticket: Ticket) -> Result<u8, Refusal>
+fn lowest_link<S: Scheme>(scheme: &S, sight: Sight, giver: u8, taker: u8, target: u8, ticket: Ticket) -> Result<u8, Refusal>
     ensures { λ r. ⌜ told r ≡ lowest-answer (S·Scheme .meaning (now (scheme .entry))) sight giver taker target (ticket .right) (ticket .copy) ⌝ }
 {
     let mut linked = false;
@@ -77,4 +79,26 @@ pub(crate) fn lowest_link<S: Scheme>(scheme: &S, sight: Sight, giver: u8, taker:
     } else {
         Err(Refusal::NoLink)
     }
+}
+
+// Copies a ticket for the target from the giver to the taker.
+pub(crate) fn copy<S: Scheme, H: HoldingsMut>(scheme: &S, holdings: &mut H, giver: u32, taker: u32, target: u32, ticket: Ticket) -> Result<u8, Refusal>
+    requires { ⌜ H·Holdings .ok (now holdings) ⌝ }
+    ensures ok { λ _. ⌜ H·Holdings .ok (now (holdings .exit)) ⌝ }
+    ensures room { λ _. ⌜ H·HoldingsMut .room (now (holdings .exit)) ≡ H·HoldingsMut .room (now (holdings .entry)) ⌝ }
+    ensures answer { λ r. ⌜ told r ≡ answer (S·Scheme .meaning (now (scheme .entry))) (H·HoldingsMut .room (now (holdings .entry))) (H·Holdings .meaning (now (holdings .entry))) (copying giver taker target (ticket .right) (ticket .copy)) ⌝ }
+    ensures state { λ _. ⌜ H·Holdings .meaning (now (holdings .exit)) ≡ step (S·Scheme .meaning (now (scheme .entry))) (H·HoldingsMut .room (now (holdings .entry))) (H·Holdings .meaning (now (holdings .entry))) (copying giver taker target (ticket .right) (ticket .copy)) ⌝ }
+{
+    let kinds = check_copy_parties(scheme, holdings, giver, taker, target, ticket.right)?;
+    let copyable = Ticket {
+        right: ticket.right,
+        copy: true,
+    };
+    if !holdings.tickets(giver, target).has(copyable) {
+        return Err(Refusal::NotCopyable);
+    }
+    let seen = sight(scheme, holdings, giver, taker);
+    let link = lowest_link(scheme, seen, kinds.giver, kinds.taker, kinds.target, ticket)?;
+    gain(holdings, taker, target, ticket)?;
+    Ok(link)
 }

@@ -5,7 +5,7 @@ use Rattle.model.specs.Refusals.{told}
 use Rattle.model.specs.Tickets.{tickets-of, join, ticket-of, none}
 use Rattle.model.specs.State.{stored}
 use Rattle.model.specs.Calls.{after, gained, store-answer}
-use Rattle.register.proofs.gaining.gain.Needs as need
+use Rattle.register.proofs.gains.gain.Needs as need
 
 pub returns : need.returns
 returns g c =

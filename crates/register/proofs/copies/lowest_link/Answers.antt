@@ -5,8 +5,8 @@ use Rattle.std.specs.Options.{isSome}
 use Rattle.model.specs.Tickets.{has, Tickets}
 use Rattle.model.specs.Calls.{first, upto}
 use Rattle.register.proofs.Linking.{link-found, link-passed-over, link-off}
-use Rattle.register.proofs.links.lowest_link.Needs as need
-use Rattle.register.proofs.links.lowest_link.Needs.{then-link·else-has, else-link}
+use Rattle.register.proofs.copies.lowest_link.Needs as need
+use Rattle.register.proofs.copies.lowest_link.Needs.{then-link·else-has, else-link}
 
 pub returns-then-has : need.returns-then-has
 returns-then-has g c =

@@ -3,7 +3,7 @@ use Rattle.std.specs.Options.{isSome}
 use Rattle.std.specs.declared.option.Option.the-variants.{None}
 use Rattle.model.specs.Calls.{first, upto}
 use Rattle.register.specs.Passing.{lets}
-use Rattle.register.proofs.links.lowest_link.Given as given
+use Rattle.register.proofs.copies.lowest_link.Given as given
 
 abbrev pub Inv-loop-link : given.InvT-loop-link
 Inv-loop-link g l =
