@@ -208,7 +208,7 @@ pub impl Scheme for CardScheme as CardIsScheme {
     }
 
     fn rule(&self, number: usize) -> Option<Rule> {
-        if number < RULES.len() {
+        if number < self.rules() {
             Some(RULES[number].rule())
         } else {
             None
