@@ -2,7 +2,7 @@
 use mathlib.Core.Bool.{true, _&&_}
 use mathlib.Core.List.{List}
 use mathlib.Core.Logic.{_⊎_, inl, inr}
-use mathlib.Core.Path.{_≡_, refl, sym, ap, ap₂, _∙_}
+use mathlib.Core.Path.{_≡_, refl, sym, ap, ap₂, subst, _∙_}
 use Prim.Native.Nat.{ℕ, _+_, _*_, _/_, _%_, _<_, _≤_}
 use native.Mathlib.Omega.{arith}
 use lib.Dec.{leb, eqb}
@@ -10,7 +10,7 @@ use lib.ListN.{length}
 use Rattle.std.specs.Options.{isSome}
 use Rattle.std.specs.declared.option.Option.{Option}
 use Rattle.std.specs.declared.option.Option.the-variants.{Some, None}
-use Rattle.std.proofs.shelf.Bits.{mul-add-lt, div-mul-add, mod-mul-add}
+use Rattle.std.proofs.shelf.Bits.{mul-add-lt, mul-le, div-mul-add, mod-mul-add}
 use Rattle.std.proofs.shelf.Lists.{length-take-le}
 use Rattle.std.proofs.shelf.Tests.{and-parts, leb-true, eqb-true}
 use Rattle.model.specs.declared.tickets.Entity.{Entity}
@@ -81,6 +81,17 @@ module _ (rows : Rows) (cells : List ℕ) (laid : Laid rows cells) where
 
   pub cell-within : (i j : ℕ) → i < n → j < n → i * n + j < length cells
   cell-within i j hi hj = omega (arith, mul-add-lt i n j n hi hj, sizes .2)
+
+  pub small : length cells < 1000000
+  small = omega (arith, sizes .2, mul-le n n 512 512 (sizes .1) (sizes .1))
+
+  -- the cell that is reckoned from the places of a holder and a target
+  pub found-cell : (h y i j m : ℕ) → m ≡ n → Some i ≡ place-of es h → Some j ≡ place-of es y
+      → (Some (i * m + j) ≡ cell-of es n h y) × (i * m + j < length cells)
+  found-cell h y i j m e p q = (
+    ap (λ (x : ℕ). Some (i * x + j)) e ∙ ap₂ (cell-at n) p q,
+    subst (λ (x : ℕ). i * x + j < length cells) (sym e) (cell-within i j (row-within h i (sym p)) (row-within y j (sym q))),
+  )
 
   -- the cell of a pair, with its row and column
   pub pair-cell : (h y k : ℕ) → cell-of es n h y ≡ Some k

@@ -40,10 +40,13 @@ module _ (rows : Rows) (cells : List ℕ) (laid : Laid rows cells) (h y : ℕ) (
   st = meant (roll rows) n cells
 
   -- a pair without a cell is refused
-  pub no-cell : cell-of es n h y ≡ None → refused 1 ≡ store-answer (square n) st h y s
-  no-cell e = sym (cond-false _ _ _ (standing-cell es n h y ∙ ap isSome e))
+  pub no-cell : None ≡ cell-of es n h y → refused 1 ≡ store-answer (square n) st h y s
+  no-cell e = sym (cond-false _ _ _ (standing-cell es n h y ∙ ap isSome (sym e)))
 
-  module _ (k w : ℕ) (at : cell-of es n h y ≡ Some k) (word : unpack w ≡ s) where
+  module _ (k w : ℕ) (found : Some k ≡ cell-of es n h y) (word : unpack w ≡ s) where
+    at : cell-of es n h y ≡ Some k
+    at = sym found
+
     both : (standing st h && standing st y) ≡ true
     both = standing-cell es n h y ∙ ap isSome at
 
