@@ -5,8 +5,10 @@ use mathlib.Core.Path.{_≡_}
 use Prim.Native.Nat.{ℕ, suc, _<_, _≤_}
 use Rattle.std.specs.declared.option.Option.the-variants.{Some}
 use Rattle.model.specs.declared.tickets.Entity.{Entity}
-use Rattle.model.specs.Scheme.{Scheme}
-use Rattle.model.specs.State.{State, kind-of, standing, subject, holds, last-number}
+use Rattle.model.specs.Scheme.{Scheme, Well-formed}
+use Rattle.model.specs.State.{State, Room, kind-of, standing, subject, holds, last-number}
+use Rattle.model.specs.Calls.{Call, step}
+use Rattle.model.specs.SetUp.{Entry, entry-step}
 
 -- numbers rise along the list from low on, and stay below n
 abbrev pub Rising : ℕ → List Entity → ℕ → Type 0
@@ -32,3 +34,8 @@ pub record Sound (S : Scheme) (st : State) : Type 0 where
 pub record Kept (own : Type 0) (S : Scheme) (st : State) : Type 0 where
   pub holdings : own
   pub sound : Sound S st
+
+-- the law: of every well-formed scheme, in every room, every call and every entry of a set-up leaves a sound register sound
+abbrev pub Stays-sound : Type 0
+Stays-sound = (S : Scheme) → Well-formed S → (R : Room) (st : State) → Sound S st
+    → ((k : Call) → Sound S (step S R st k)) × ((e : Entry) → Sound S (entry-step S R st e))
