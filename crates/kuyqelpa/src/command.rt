@@ -1,4 +1,5 @@
 //! The commands of a script, one to a line.
+use super::script::without_comment;
 use super::words::TicketFor;
 use super::words::kind;
 use super::words::number;
@@ -25,7 +26,7 @@ pub enum Command {
 
 /// The command that a line says, or none where the line is malformed.
 pub fn parse(line: &str) -> Option<Command> {
-    let mut words = line.split_ascii_whitespace();
+    let mut words = without_comment(line).split_ascii_whitespace();
     let name = words.next()?;
     let first = words.next();
     let second = words.next();

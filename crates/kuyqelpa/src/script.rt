@@ -17,22 +17,21 @@ impl<'a> Script<'a> {
         Script { lines: text.lines() }
     }
 
-    /// The next line that says something, without its comment, or none at the end.
+    /// The next line that says something, with its comment, or none at the end.
     pub fn next_line(&mut self) -> Option<&'a str>
         ensures { λ r. ⌜ Cases r (length (lines-rest (now (self .exit) .lines)) ≤ length (lines-rest (now (self .entry) .lines))) (λ _. length (lines-rest (now (self .exit) .lines)) < length (lines-rest (now (self .entry) .lines))) ⌝ }
     {
         while let Some(line) = self.lines.next() {
-            let said = without_comment(line).trim_ascii();
-            if !said.is_empty() {
-                return Some(said);
+            if !without_comment(line).trim_ascii().is_empty() {
+                return Some(line.trim_ascii());
             }
         }
         None
     }
 }
 
-// A line up to its comment, which `#` starts.
-fn without_comment(line: &str) -> &str {
+/// A line up to its comment, which `#` starts.
+pub fn without_comment(line: &str) -> &str {
     match line.split_once('#') {
         Some((said, _)) => said,
         None => line,
