@@ -12,6 +12,10 @@ use model::Entity;
 use model::Refusal;
 use model::TicketSet;
 
+mod rows;
+
+pub use rows::Rows;
+
 /// Holdings that can be read. Every question takes the holdings for writing, so that an implementation may move
 /// within its memory, and promises that nothing has moved when it answers.
 pub trait Holdings {

@@ -40,20 +40,6 @@ impl TicketSet {
         }
     }
 
-    /// The mask of the plain rights.
-    pub fn plain(self) -> u16
-        ensures { λ r. ⌜ r ≡ tickets-of self .plain ⌝ }
-    {
-        self.plain
-    }
-
-    /// The mask of the copyable rights.
-    pub fn copyable(self) -> u16
-        ensures { λ r. ⌜ r ≡ tickets-of self .copyable ⌝ }
-    {
-        self.copyable
-    }
-
     /// Whether the set has no ticket.
     pub fn is_empty(self) -> bool
         ensures { λ r. ⌜ r ≡ empty (tickets-of self) ⌝ }

@@ -24,3 +24,19 @@ pub struct TicketSet {
     pub(crate) copyable: u16,
     ghost nested: { bitOr plain copyable ≡ plain },
 }
+
+impl TicketSet {
+    /// The mask of the plain rights.
+    pub fn plain(self) -> u16
+        ensures { λ r. ⌜ r ≡ self .plain ⌝ }
+    {
+        self.plain
+    }
+
+    /// The mask of the copyable rights.
+    pub fn copyable(self) -> u16
+        ensures { λ r. ⌜ r ≡ self .copyable ⌝ }
+    {
+        self.copyable
+    }
+}

@@ -1,0 +1,4 @@
+pub mod Tables
+pub mod Card
+pub mod Lawful
+pub mod CardLawful

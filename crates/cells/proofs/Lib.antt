@@ -1,0 +1,6 @@
+mod Adds
+mod Counts
+mod Cells
+mod Removes
+mod Stores
+mod Wipes
