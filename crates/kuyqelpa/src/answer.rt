@@ -1,4 +1,6 @@
 //! The answers to commands: the line that other programs read, and the sentence for people.
+ghost use Rattle.std.specs.declared.option.Option.the-variants.{Some};
+ghost use Rattle.kuyqelpa.specs.Lines.{line};
 use super::command::Command;
 use super::names::KindName;
 use super::names::KindNameDisplay;
@@ -51,6 +53,8 @@ pub impl From<Result<bool, Refusal>> for Answer as AnswerFromBool {
 
 /// The answer's line.
 pub impl fmt::Display for Answer as AnswerDisplay {
+    ghost shown = { λ a. Some (line a) };
+
     fn fmt<W: fmt::Write>(&self, f: &mut fmt::Formatter<W>) -> fmt::Result {
         match *self {
             Answer::Done => f.write_str("ok"),
@@ -77,12 +81,11 @@ pub struct Note {
 pub impl fmt::Display for Note as NoteDisplay {
     fn fmt<W: fmt::Write>(&self, f: &mut fmt::Formatter<W>) -> fmt::Result {
         match (self.answer, self.command) {
-            (Answer::Refused(refusal), _) => {
-                let number = refusal.number();
-                write!(f, "refused with number {number}, which says: {refusal}. Nothing has changed.")
-            }
-            (Answer::Error, None) => f.write_str("this line says no command. Nothing has changed."),
-            (Answer::Error, Some(_)) => f.write_str("this command does not belong here. Nothing has changed."),
+            (Answer::Refused(refusal), _) => write!(f, "Refused: {refusal}. Nothing has changed."),
+            (Answer::Error, None) => f.write_str("This line says no command. Nothing has changed."),
+            (Answer::Error, Some(_)) => f.write_str(
+                "This command does not belong here. Nothing has changed.",
+            ),
             (answer, Some(command)) => granted(command, answer, f),
             (_, None) => Ok(()),
         }
@@ -90,23 +93,44 @@ pub impl fmt::Display for Note as NoteDisplay {
 }
 
 // What a granted command did.
-fn granted<W: fmt::Write>(command: Command, answer: Answer, f: &mut fmt::Formatter<W>) -> fmt::Result {
+fn granted<W: fmt::Write>(
+    command: Command,
+    answer: Answer,
+    f: &mut fmt::Formatter<W>,
+) -> fmt::Result {
     match (command, answer) {
-        (Command::Scheme, _) => f.write_str("the card scheme is chosen: its rules say which types and rights there are."),
-        (Command::Cells { rows }, _) => write!(f, "an empty set-up begins, with {rows} rows: an entity takes one."),
+        (Command::Scheme, _) => f.write_str(
+            "The card scheme is chosen: its rules say which types and rights there are.",
+        ),
+        (Command::Cells { rows }, _) => write!(
+            f,
+            "An empty set-up begins. It has {rows} rows, and each entity takes one."
+        ),
         (Command::Enter { kind }, Answer::Entered { number }) => {
             let name = KindName(kind);
-            write!(f, "entity {number} stands now, of the type {name}.")
+            write!(
+                f,
+                "Entity {number} stands in the register now. Its type is {name}."
+            )
         }
-        (Command::Place { holder, ticket }, _) => write!(f, "entity {holder} holds {ticket} now."),
-        (Command::Open, _) => f.write_str("the register is open: no entity is entered and no ticket placed by hand any more."),
-        (Command::Ask { holder, ticket }, Answer::Yes) => write!(f, "entity {holder} holds {ticket}."),
-        (Command::Ask { holder, ticket }, _) => write!(f, "entity {holder} does not hold {ticket}."),
+        (Command::Place { holder, ticket }, _) => write!(f, "Entity {holder} now holds {ticket}."),
+        (Command::Open, _) => f.write_str(
+            "The register is open. Nothing is entered or placed by hand any more.",
+        ),
+        (Command::Ask { holder, ticket }, Answer::Yes) => write!(
+            f,
+            "Entity {holder} holds {ticket}."
+        ),
+        (Command::Ask { holder, ticket }, _) => write!(
+            f,
+            "Entity {holder} does not hold {ticket}."
+        ),
         (Command::Show, _) => f.write_str(SHOWN),
         (Command::Enter { .. }, _) => Ok(()),
     }
 }
 
-const SHOWN: &str = "shown are the number that the next entity gets, each entity with the number of its type, and what each \
-holder has for each target: the rights, and those of them with the copy flag. Right 0 counts 1, right 1 counts 2, right 2 \
-counts 4 and so on, each twice the one before, added up in base sixteen.";
+const SHOWN: &str =
+    "Shown are the number that the next entity gets, each entity with the number of its type, and what each \
+holder has for each target: the rights, and those of them with the copy flag. A right counts 1 for right 0, 2 for right 1, \
+4 for right 2 and so on, and the sum is written in base sixteen.";

@@ -35,7 +35,9 @@ pub fn parse(line: &str) -> Option<Command> {
     }
     match (name, first, second) {
         ("scheme", Some("card"), None) => Some(Command::Scheme),
-        ("cells", Some(rows), None) => Some(Command::Cells { rows: number(rows)? }),
+        ("cells", Some(rows), None) => Some(Command::Cells {
+            rows: number(rows)?,
+        }),
         ("enter", Some(word), None) => Some(Command::Enter { kind: kind(word)? }),
         ("place", Some(holder), Some(word)) => Some(Command::Place {
             holder: number(holder)?,

@@ -29,7 +29,12 @@ pub fn show<R: Print, H: Holdings>(rt: &R, holdings: &mut H) -> io::Result<Answe
 }
 
 // Prints what a holder has for each of the first entities.
-fn show_tickets<R: Print, H: Holdings>(rt: &R, holdings: &mut H, holder: Entity, count: usize) -> io::Result<()>
+fn show_tickets<R: Print, H: Holdings>(
+    rt: &R,
+    holdings: &mut H,
+    holder: Entity,
+    count: usize,
+) -> io::Result<()>
     requires { ⌜ H·Holdings .ok (now holdings) ⌝ }
     ensures { λ _. ⌜ now (holdings .exit) ≡ now (holdings .entry) ⌝ }
 {

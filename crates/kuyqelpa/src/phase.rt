@@ -63,7 +63,9 @@ pub impl<S: Scheme, H: HoldingsMut> Phase for SetUp<S, H> as SetUpPhase {
     fn answer<R: Print>(&mut self, rt: &R, command: Command) -> io::Result<Answer> {
         match command {
             Command::Enter { kind } => Ok(self.enter(kind).into()),
-            Command::Place { holder, ticket } => Ok(self.place(holder, ticket.target, ticket.ticket).into()),
+            Command::Place { holder, ticket } => Ok(
+                self.place(holder, ticket.target, ticket.ticket).into(),
+            ),
             Command::Open => Ok(Answer::Done),
             Command::Show => show(rt, self),
             _ => Ok(start_over(command)),
@@ -76,7 +78,9 @@ pub impl<S: Scheme, H: HoldingsMut> Phase for Register<S, H> as RegisterPhase {
 
     fn answer<R: Print>(&mut self, rt: &R, command: Command) -> io::Result<Answer> {
         match command {
-            Command::Ask { holder, ticket } => Ok(self.question(holder, ticket.target, ticket.ticket).into()),
+            Command::Ask { holder, ticket } => Ok(
+                self.question(holder, ticket.target, ticket.ticket).into(),
+            ),
             Command::Show => show(rt, self),
             _ => Ok(start_over(command)),
         }

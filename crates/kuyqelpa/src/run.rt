@@ -32,6 +32,7 @@ use std::io;
 
 /// The rows that can be lent, and the cells for every pair of them.
 pub const ROWS: usize = 512;
+
 pub const CELLS: usize = ROWS * ROWS;
 
 /// Where answers go, and whether a sentence follows each.
@@ -47,14 +48,18 @@ impl<R: Print> Teller<'_, R> {
         println!(self.rt, "{answer}")?;
         if self.notes {
             let note = Note { command, answer };
-            println!(self.rt, "    `{line}`: {note}")?;
+            println!(self.rt, "    {line}\n    {note}")?;
         }
         Ok(())
     }
 }
 
 // Runs a phase of a script: what the script goes on with, or none at its end.
-fn run_phase<R: Print, P: Phase>(teller: &Teller<R>, script: &mut Script, phase: &mut P) -> io::Result<Option<Next>>
+fn run_phase<R: Print, P: Phase>(
+    teller: &Teller<R>,
+    script: &mut Script,
+    phase: &mut P,
+) -> io::Result<Option<Next>>
     requires { ⌜ P·Phase .ok (now phase) ⌝ }
     ensures ok { λ _. ⌜ P·Phase .ok (now (phase .exit)) ⌝ }
     ensures shorter { λ r. ⌜ made r (λ next. Cases next (length (lines-rest (now (script .exit) .lines)) ≤ length (lines-rest (now (script .entry) .lines))) (λ _. length (lines-rest (now (script .exit) .lines)) < length (lines-rest (now (script .entry) .lines)))) ⌝ }
@@ -74,7 +79,13 @@ fn run_phase<R: Print, P: Phase>(teller: &Teller<R>, script: &mut Script, phase:
 }
 
 // Runs a set-up in lent memory, and the register that it becomes.
-fn run_set_up<R: Print>(teller: &Teller<R>, script: &mut Script, count: RowCount, entities: &mut [Entity], cells: &mut [u32]) -> io::Result<Option<Next>>
+fn run_set_up<R: Print>(
+    teller: &Teller<R>,
+    script: &mut Script,
+    count: RowCount,
+    entities: &mut [Entity],
+    cells: &mut [u32],
+) -> io::Result<Option<Next>>
     requires entities { ⌜ length (now entities) ≡ 512 ⌝ }
     requires cells { ⌜ length (now cells) ≡ 262144 ⌝ }
     ensures shorter { λ r. ⌜ made r (λ next. Cases next (length (lines-rest (now (script .exit) .lines)) ≤ length (lines-rest (now (script .entry) .lines))) (λ _. length (lines-rest (now (script .exit) .lines)) < length (lines-rest (now (script .entry) .lines)))) ⌝ }
@@ -92,7 +103,12 @@ fn run_set_up<R: Print>(teller: &Teller<R>, script: &mut Script, count: RowCount
 }
 
 /// Runs a script to its end. The memory is lent anew to each set-up.
-pub fn run<R: Print>(teller: &Teller<R>, text: &str, entities: &mut [Entity], cells: &mut [u32]) -> io::Result<()>
+pub fn run<R: Print>(
+    teller: &Teller<R>,
+    text: &str,
+    entities: &mut [Entity],
+    cells: &mut [u32],
+) -> io::Result<()>
     requires entities { ⌜ length (now entities) ≡ 512 ⌝ }
     requires cells { ⌜ length (now cells) ≡ 262144 ⌝ }
 {
@@ -101,7 +117,13 @@ pub fn run<R: Print>(teller: &Teller<R>, text: &str, entities: &mut [Entity], ce
     let mut next = run_phase(teller, &mut script, &mut beginning)?;
     while let Some(phase) = next {
         next = match phase {
-            Next::SetUp(count) => run_set_up(teller, &mut script, count, &mut *entities, &mut *cells)?,
+            Next::SetUp(count) => run_set_up(
+                teller,
+                &mut script,
+                count,
+                &mut *entities,
+                &mut *cells,
+            )?,
             // Only a set-up is opened, and it goes on as a register by itself.
             Next::Chosen | Next::Open => {
                 let mut chosen = Chosen;

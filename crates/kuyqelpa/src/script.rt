@@ -14,7 +14,9 @@ pub struct Script<'a> {
 impl<'a> Script<'a> {
     /// The script with this text.
     pub fn new(text: &'a str) -> Script<'a> {
-        Script { lines: text.lines() }
+        Script {
+            lines: text.lines(),
+        }
     }
 
     /// The next line that says something, with its comment, or none at the end.
