@@ -1,6 +1,8 @@
 //! The answers to commands: the line that other programs read, and the sentence for people.
+ghost use mathlib.Core.Path.{_≡_};
 ghost use Rattle.std.specs.declared.option.Option.the-variants.{Some};
-ghost use Rattle.kuyqelpa.specs.Lines.{line};
+ghost use Rattle.model.specs.Refusals.{told};
+ghost use Rattle.kuyqelpa.specs.Lines.{line, done-line, entered-line, ask-line};
 use super::command::Command;
 use super::names::KindName;
 use super::names::KindNameDisplay;
@@ -24,6 +26,8 @@ pub enum Answer {
 }
 
 pub impl From<Result<(), Refusal>> for Answer as AnswerFromDone {
+    ghost converts = { λ r a. line a ≡ done-line (told r) };
+
     fn from(result: Result<(), Refusal>) -> Answer {
         match result {
             Ok(()) => Answer::Done,
@@ -33,6 +37,8 @@ pub impl From<Result<(), Refusal>> for Answer as AnswerFromDone {
 }
 
 pub impl From<Result<u32, Refusal>> for Answer as AnswerFromNumber {
+    ghost converts = { λ r a. line a ≡ entered-line (told r) };
+
     fn from(result: Result<u32, Refusal>) -> Answer {
         match result {
             Ok(number) => Answer::Entered { number },
@@ -42,6 +48,8 @@ pub impl From<Result<u32, Refusal>> for Answer as AnswerFromNumber {
 }
 
 pub impl From<Result<bool, Refusal>> for Answer as AnswerFromBool {
+    ghost converts = { λ r a. line a ≡ ask-line (told r) };
+
     fn from(result: Result<bool, Refusal>) -> Answer {
         match result {
             Ok(true) => Answer::Yes,

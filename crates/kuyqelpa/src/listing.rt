@@ -1,5 +1,7 @@
 //! Everything that holdings have, line by line.
 ghost use mathlib.Core.Path.{_≡_};
+ghost use Rattle.std.specs.Vec.{made};
+ghost use Rattle.kuyqelpa.specs.declared.answer.Answer.the-variants.{End};
 use super::answer::Answer;
 use holdings::Holdings;
 use model::Entity;
@@ -8,7 +10,8 @@ use std::io;
 /// Prints the next number, the entities and the tickets. The answer is the last line.
 pub fn show<R: Print, H: Holdings>(rt: &R, holdings: &mut H) -> io::Result<Answer>
     requires { ⌜ H·Holdings .ok (now holdings) ⌝ }
-    ensures { λ _. ⌜ now (holdings .exit) ≡ now (holdings .entry) ⌝ }
+    ensures same { λ _. ⌜ now (holdings .exit) ≡ now (holdings .entry) ⌝ }
+    ensures says { λ r. ⌜ made r (λ a. a ≡ End) ⌝ }
 {
     let next = holdings.next_number();
     println!(rt, "next {next}")?;
