@@ -17,14 +17,14 @@ use run::CELLS;
 use run::ROWS;
 use run::Teller;
 use run::run;
+use std::alloc::Global;
 use std::env;
 use std::error::AnyError;
 use std::fs;
 use std::io::Read;
 
 // Lends the memory and runs a script.
-fn run_script(rt: &LibcRuntime, text: &str, notes: bool) -> Result<(), AnyError> {
-    let heap = rt.alloc();
+fn run_script<R: Print>(rt: &R, heap: Global, text: &str, notes: bool) -> Result<(), AnyError> {
     let mut entities = vec![in heap; Entity { number: 0, kind: 0 }; ROWS]?;
     let mut cells = vec![in heap; 0; CELLS]?;
     let teller = Teller { rt, notes };
@@ -33,9 +33,9 @@ fn run_script(rt: &LibcRuntime, text: &str, notes: bool) -> Result<(), AnyError>
 }
 
 // The example: its script, with notes, between two texts.
-fn tell_example(rt: &LibcRuntime) -> Result<(), AnyError> {
+fn tell_example<R: Print>(rt: &R, heap: Global) -> Result<(), AnyError> {
     rt.println(example::OPENING)?;
-    run_script(rt, example::SCRIPT, true)?;
+    run_script(rt, heap, example::SCRIPT, true)?;
     rt.println(example::CLOSING)?;
     Ok(())
 }
@@ -53,7 +53,7 @@ fn run_file(rt: &LibcRuntime, name: &str, notes: bool) -> Result<(), AnyError> {
         fs::read(rt, name)?
     };
     let text = String::from_utf8_lossy(heap, bytes.as_slice())?;
-    run_script(rt, text.as_str(), notes)
+    run_script(rt, heap, text.as_str(), notes)
 }
 
 // Does what the program's arguments ask for.
@@ -66,7 +66,7 @@ fn serve(rt: &LibcRuntime) -> Result<(), AnyError> {
         return Err("too many words: see kuyqelpa --help".into());
     }
     match (first, second) {
-        (None, _) => tell_example(rt),
+        (None, _) => tell_example(rt, rt.alloc()),
         (Some(word), None) => match word.as_str() {
             "--help" => Ok(help(rt)?),
             "--notes" => Err("--notes wants a file, or - for the standard input".into()),

@@ -29,7 +29,7 @@ pub impl fmt::Display for Deed as DeedDisplay {
         f.write_str(
             match self.0 {
                 0 => "read",
-                1 => "write",
+                1 => "write on",
                 2 => "take from",
                 3 => "grant to",
                 4 => "own",
