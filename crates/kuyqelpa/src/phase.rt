@@ -3,12 +3,15 @@ ghost use mathlib.Core.Bool.{true};
 ghost use mathlib.Core.Path.{_≡_};
 ghost use mathlib.Core.List.{List};
 ghost use Prim.Native.Nat.{ℕ, _*_};
+ghost use Rattle.std.specs.Options.{Cases};
 ghost use Rattle.std.specs.Results.{Cases as ByOk};
 ghost use Rattle.std.specs.Vec.{made};
 ghost use Rattle.model.specs.Laws.{Kept};
 ghost use Rattle.model.specs.Refusals.{granted, refused, refusal-number};
 ghost use Rattle.cells.specs.Layout.{fit-answer};
 ghost use Rattle.kuyqelpa.specs.declared.command.Command.{Command};
+ghost use Rattle.kuyqelpa.specs.declared.answer.Answer.the-variants.{Done};
+ghost use Rattle.kuyqelpa.specs.Going.{Starts, Follows};
 ghost use Rattle.kuyqelpa.specs.Lines.{line, beginning-line, chosen-line, set-up-line, set-up-step, open-line};
 use super::answer::Answer;
 use super::answer::AnswerFromBool;
@@ -90,7 +93,7 @@ pub impl<S: Scheme, H: HoldingsMut> Phase for SetUp<S, H> as SetUpPhase {
 
     fn answer<R: Print>(&mut self, rt: &R, command: Command) -> io::Result<Answer> {
         match command {
-            Command::Enter { kind } => Ok(Answer::from(self.enter(kind))),
+            Command::Enter { kind } => Ok(self.enter(kind).into()),
             Command::Place { holder, ticket } => Ok(
                 self.place(holder, ticket.target, ticket.ticket).into(),
             ),
@@ -152,7 +155,9 @@ pub enum Next {
 
 impl Next {
     /// What follows upon a command with this answer, or none where the same phase goes on.
-    pub fn after(command: Command, answer: Answer) -> Option<Next> {
+    pub fn after(command: Command, answer: Answer) -> Option<Next>
+        ensures { λ r. ⌜ Cases r (answer ≡ Done → Starts command → ⊥) (λ next. (answer ≡ Done) × Follows command next) ⌝ }
+    {
         let Answer::Done = answer else {
             return None;
         };
