@@ -2,3 +2,4 @@ pub mod Numbers
 pub mod Words
 pub mod Lines
 pub mod Going
+pub mod Commands

@@ -1,4 +1,7 @@
 //! The commands of a script, one to a line.
+ghost use Rattle.std.specs.Options.{mapped};
+ghost use Rattle.std.specs.Slices.{found};
+ghost use Rattle.kuyqelpa.specs.Commands.{Means};
 use super::script::without_comment;
 use super::words::TicketFor;
 use super::words::kind;
@@ -33,6 +36,13 @@ pub fn parse(line: &str) -> Option<Command> {
     if words.next().is_some() {
         return None;
     }
+    command_of(name, first, second)
+}
+
+// The command that up to three words say.
+fn command_of(name: &str, first: Option<&str>, second: Option<&str>) -> Option<Command>
+    ensures { λ r. ⌜ found r (λ c. Means (now (name .entry)) (mapped now (first .entry)) (mapped now (second .entry)) c) ⌝ }
+{
     match (name, first, second) {
         ("scheme", Some("card"), None) => Some(Command::Scheme),
         ("cells", Some(rows), None) => Some(Command::Cells {
