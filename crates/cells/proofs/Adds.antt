@@ -1,9 +1,9 @@
 -- What one row more does to the table's meaning: its cells are clear.
-use mathlib.Core.Bool.{Bool, true, false, cond}
+use mathlib.Core.Bool.{cond}
 use mathlib.Core.List.{List, [], _∷_, _++_}
 use mathlib.Core.Logic.{_⊎_, inl, inr}
 use mathlib.Core.Path.{_≡_, refl, sym, ap, ap₂, subst, _∙_, fun-ext}
-use Prim.Native.Nat.{ℕ, suc, _+_, _*_, _<_, _≤_}
+use Prim.Native.Nat.{ℕ, _+_, _*_, _<_, _≤_}
 use native.Mathlib.Omega.{arith}
 use lib.Dec.{eqb}
 use lib.ListN.{length, getD}
@@ -15,22 +15,18 @@ use Rattle.model.specs.declared.tickets.Entity.{Entity}
 use Rattle.model.specs.Refusals.{Answer, granted, refused}
 use Rattle.model.specs.Tickets.{none}
 use Rattle.model.specs.State.{State, added, holding}
-use Rattle.model.specs.Laws.{Rising}
 use Rattle.model.specs.Calls.{after}
 use Rattle.holdings.specs.declared.rows.Rows.{Rows}
 use Rattle.holdings.specs.Rows.{size, in-rows, roll, In-order, place-of}
 use Rattle.holdings.proofs.Places.{place-some, place-push, place-above}
 use Rattle.cells.specs.Layout.{Laid, unpack, cell-at, in-cell, held, meant}
-use Rattle.cells.proofs.Cells.{count-is}
+use Rattle.cells.proofs.Cells.{count-is, none-held}
 
 -- a cell that is 0 holds nothing, and so does a pair without a cell
 clear-cell : (cells : List ℕ) (n : ℕ) (o p : Option ℕ) → ((i j : ℕ) → o ≡ Some i → p ≡ Some j → getD cells (i * n + j) 0 ≡ 0) → in-cell cells (cell-at n o p) ≡ none
 clear-cell cells n (Some i) (Some j) f = ap unpack (f i j refl refl)
 clear-cell cells n (Some i) None f = refl
 clear-cell cells n None p f = refl
-
-no-column : (cells : List ℕ) (n : ℕ) (o : Option ℕ) → in-cell cells (cell-at n o None) ≡ none
-no-column cells n o = clear-cell cells n o None (λ i j p q. absurd (let z : _≡_ {A = ℕ} 0 1 = cc in omega arith))
 
 module _ (rows : Rows) (cells : List ℕ) (kind : ℕ) (laid : Laid rows cells) where
   abbrev es : List Entity
@@ -59,7 +55,7 @@ module _ (rows : Rows) (cells : List ℕ) (kind : ℕ) (laid : Laid rows cells) 
             let e : _≡_ {A = Option ℕ} (Some (length es)) (Some i) = sym last ∙ p in
             let z : length es ≡ i = cc in
             laid .clear i j (within a i p) (within b j q) (inl (omega arith)))
-            ∙ sym (ap (λ (o : Option ℕ). in-cell cells (cell-at n o (place-of es b))) gone)
+            ∙ sym (none-held cells n (place-of es a) (place-of es b) (inl gone))
         | inr f ↦
             let same : place-of more a ≡ place-of es a = place-more a ∙ cond-false _ _ _ f in
             elim (cases-bool (eqb (rows .next) b)) [
@@ -70,7 +66,7 @@ module _ (rows : Rows) (cells : List ℕ) (kind : ℕ) (laid : Laid rows cells) 
                   let e : _≡_ {A = Option ℕ} (Some (length es)) (Some j) = sym last ∙ q in
                   let z : length es ≡ j = cc in
                   laid .clear i j (within a i p) (within b j q) (inr (omega arith)))
-                  ∙ sym (ap (λ (o : Option ℕ). in-cell cells (cell-at n (place-of es a) o)) gone ∙ no-column cells n (place-of es a))
+                  ∙ sym (none-held cells n (place-of es a) (place-of es b) (inr gone))
               | inr g ↦ ap₂ (λ (o p : Option ℕ). in-cell cells (cell-at n o p)) same (place-more b ∙ cond-false _ _ _ g)
             ]
       ]

@@ -1,23 +1,25 @@
 -- The cell of a pair lies within the memory, and belongs to no other pair.
 use mathlib.Core.Bool.{true, _&&_}
 use mathlib.Core.List.{List}
+use mathlib.Core.Logic.{_⊎_, inl, inr}
 use mathlib.Core.Path.{_≡_, refl, sym, ap, ap₂, subst, _∙_}
 use Prim.Native.Nat.{ℕ, _+_, _*_, _/_, _%_, _<_, _≤_}
 use native.Mathlib.Omega.{arith}
 use lib.Dec.{leb, eqb}
-use lib.ListN.{length, getD}
-use Rattle.std.specs.Options.{isSome, Cases}
+use lib.ListN.{length}
+use Rattle.std.specs.Options.{isSome}
 use Rattle.std.specs.declared.option.Option.{Option}
 use Rattle.std.specs.declared.option.Option.the-variants.{Some, None}
-use Rattle.std.proofs.shelf.Bits.{mul-add-lt, div-mul-add, mod-mul-add}
+use Rattle.std.proofs.shelf.Bits.{mul-add-lt, mul-le, div-mul-add, mod-mul-add}
 use Rattle.std.proofs.shelf.Lists.{length-take-le}
 use Rattle.std.proofs.shelf.Tests.{and-parts, leb-true, eqb-true}
 use Rattle.model.specs.declared.tickets.Entity.{Entity}
 use Rattle.model.specs.State.{kind-in}
+use Rattle.model.specs.Tickets.{none}
 use Rattle.holdings.specs.declared.rows.Rows.{Rows}
 use Rattle.holdings.specs.Rows.{size, in-rows, In-order, place-of}
-use Rattle.holdings.proofs.Places.{blank, place-some, standing-place}
-use Rattle.cells.specs.Layout.{fit, Laid, cell-at, cell-of}
+use Rattle.holdings.proofs.Places.{place-some, standing-place}
+use Rattle.cells.specs.Layout.{fit, Laid, cell-at, cell-of, in-cell}
 
 pub fit-sizes : (n m : ℕ) → fit n m ≡ true → (1 ≤ n) × (n ≤ 512) × (m ≡ n * n)
 fit-sizes n m h =
@@ -48,6 +50,12 @@ pub standing-cell : (es : List Entity) (n h y : ℕ) → (isSome (kind-in es h) 
 standing-cell es n h y =
     ap₂ (λ a b. a && b) (standing-place es h) (standing-place es y) ∙ sym (some-cell n (place-of es h) (place-of es y))
 
+-- a pair of which one does not stand holds nothing
+pub none-held : (cells : List ℕ) (n : ℕ) (o p : Option ℕ) → (o ≡ None) ⊎ (p ≡ None) → in-cell cells (cell-at n o p) ≡ none
+none-held cells n o p (inl e) = ap (λ (x : Option ℕ). in-cell cells (cell-at n x p)) e
+none-held cells n (Some i) p (inr e) = ap (λ (x : Option ℕ). in-cell cells (cell-at n (Some i) x)) e
+none-held cells n None p (inr e) = refl
+
 -- two that have one place are one
 same-place : (es : List Entity) (a b i : ℕ) → place-of es a ≡ Some i → place-of es b ≡ Some i → a ≡ b
 same-place es a b i p q = sym (place-some es a i p .1) ∙ place-some es b i q .1
@@ -73,6 +81,17 @@ module _ (rows : Rows) (cells : List ℕ) (laid : Laid rows cells) where
 
   pub cell-within : (i j : ℕ) → i < n → j < n → i * n + j < length cells
   cell-within i j hi hj = omega (arith, mul-add-lt i n j n hi hj, sizes .2)
+
+  pub small : length cells < 1000000
+  small = omega (arith, sizes .2, mul-le n n 512 512 (sizes .1) (sizes .1))
+
+  -- the cell that is reckoned from the places of a holder and a target
+  pub found-cell : (h y i j m : ℕ) → m ≡ n → Some i ≡ place-of es h → Some j ≡ place-of es y
+      → (Some (i * m + j) ≡ cell-of es n h y) × (i * m + j < length cells)
+  found-cell h y i j m e p q = (
+    ap (λ (x : ℕ). Some (i * x + j)) e ∙ ap₂ (cell-at n) p q,
+    subst (λ (x : ℕ). i * x + j < length cells) (sym e) (cell-within i j (row-within h i (sym p)) (row-within y j (sym q))),
+  )
 
   -- the cell of a pair, with its row and column
   pub pair-cell : (h y k : ℕ) → cell-of es n h y ≡ Some k

@@ -1,5 +1,5 @@
 -- What squeezing the cells does to them, and with one row less to the table's meaning.
-use mathlib.Core.Bool.{Bool, true, false, cond, _&&_, _||_}
+use mathlib.Core.Bool.{true, false, cond, _&&_, _||_}
 use mathlib.Core.List.{List}
 use mathlib.Core.Logic.{_⊎_, inl, inr}
 use mathlib.Core.Path.{_≡_, refl, sym, ap, ap₂, subst, _∙_, fun-ext}
@@ -15,13 +15,13 @@ use Rattle.std.proofs.shelf.Lists.{getD-set-same, getD-set-other}
 use Rattle.std.proofs.shelf.Tests.{cases-bool, cases-eq, cases-lt, cond-true, cond-false, cond-both, eqb-true, eqb-false, lt-ltb, le-ltb, and-left, and-right, and-from, or-parts, or-cases}
 use Rattle.model.specs.declared.tickets.Entity.{Entity}
 use Rattle.model.specs.Tickets.{none}
-use Rattle.model.specs.State.{State, Table, remove, removed, without, holding}
+use Rattle.model.specs.State.{State, Table, remove, removed, without}
 use Rattle.holdings.specs.declared.rows.Rows.{Rows}
 use Rattle.holdings.specs.Rows.{size, in-rows, roll, In-order, place-of, remove-at, past}
 use Rattle.holdings.proofs.Places.{past-from, place-some, place-left, place-removed, remove-place, remove-none, length-left}
 use Rattle.cells.specs.Layout.{Laid, Nested, unpack, cell-at, in-cell, held, meant}
 use Rattle.cells.specs.Squeeze.{squeezed, Squeezed}
-use Rattle.cells.proofs.Cells.{count-is, sizes, few}
+use Rattle.cells.proofs.Cells.{count-is, few, none-held}
 
 -- one cell more is squeezed: what moves to it comes from a later cell
 pub squeeze-more : (old cells : List ℕ) (n r count i j w : ℕ) → j < n → i * n + j < length cells → w ≡ squeezed cells n r count i j
@@ -48,12 +48,6 @@ squeeze-none old n r count = record { moved = λ c h. absurd (omega arith); stil
 pub at-sizes : (old cells : List ℕ) (r n m count k : ℕ) → n ≡ m → count ≡ k → Squeezed old cells n r count (count * n) → Squeezed old cells m r k (k * m)
 at-sizes old cells r n m count k e f q = subst (λ (x : ℕ). Squeezed old cells x r k (k * x)) e (subst (λ (x : ℕ). Squeezed old cells n r x (x * n)) f q)
 
--- one that does not stand holds nothing
-gone-none : (cells : List ℕ) (n : ℕ) (o p : Option ℕ) → (o ≡ None) ⊎ (p ≡ None) → in-cell cells (cell-at n o p) ≡ none
-gone-none cells n o p (inl e) = ap (λ (x : Option ℕ). in-cell cells (cell-at n x p)) e
-gone-none cells n (Some i) p (inr e) = ap (λ (x : Option ℕ). in-cell cells (cell-at n (Some i) x)) e
-gone-none cells n None p (inr e) = refl
-
 -- removing what does not stand changes nothing
 pub removed-none : (st : State) (n : ℕ) (cells : List ℕ) (m : ℕ) → place-of (st .entities) m ≡ None → meant st n cells ≡ removed (meant st n cells) m
 removed-none st n cells m h =
@@ -61,7 +55,7 @@ removed-none st n cells m h =
     let none-at : (a : ℕ) → eqb a m ≡ true → place-of es a ≡ None = (λ a t. ap (place-of es) (eqb-true a m t) ∙ h) in
     let same : held es n cells ≡ without (held es n cells) m =
     fun-ext (λ a. fun-ext (λ b. elim (cases-bool (eqb a m || eqb b m)) [
-      | inl t ↦ gone-none cells n (place-of es a) (place-of es b) (elim (or-cases (eqb a m) (eqb b m) t) [ inl u ↦ inl (none-at a u) | inr u ↦ inr (none-at b u) ]) ∙ sym (cond-true _ _ _ t)
+      | inl t ↦ none-held cells n (place-of es a) (place-of es b) (elim (or-cases (eqb a m) (eqb b m) t) [ inl u ↦ inl (none-at a u) | inr u ↦ inr (none-at b u) ]) ∙ sym (cond-true _ _ _ t)
       | inr f ↦ sym (cond-false _ _ _ f)
     ])) in
     ap₂ (λ (l : List Entity) (t : Table). record { next = st .next; entities = l; tickets = t }) (sym (remove-none es m h)) same
@@ -120,7 +114,7 @@ module _ (rows left : Rows) (cells moved : List ℕ) (m r : ℕ) (laid : Laid ro
   held-left : (a b : ℕ) → held (remove-at es r) n moved a b ≡ without (held es n cells) m a b
   held-left a b = elim (cases-bool (eqb a m || eqb b m)) [
     | inl t ↦
-        gone-none moved n (place-of (remove-at es r) a) (place-of (remove-at es r) b) (elim (or-cases (eqb a m) (eqb b m) t) [ inl u ↦ inl (gone a u) | inr u ↦ inr (gone b u) ])
+        none-held moved n (place-of (remove-at es r) a) (place-of (remove-at es r) b) (elim (or-cases (eqb a m) (eqb b m) t) [ inl u ↦ inl (gone a u) | inr u ↦ inr (gone b u) ])
         ∙ sym (cond-true _ _ _ t)
     | inr f ↦
         let p = or-parts (eqb a m) (eqb b m) f in

@@ -1,9 +1,9 @@
 -- What a word written into the cell of a pair does to the table's meaning.
-use mathlib.Core.Bool.{Bool, true, false, cond, _&&_}
+use mathlib.Core.Bool.{true, _&&_}
 use mathlib.Core.List.{List}
-use mathlib.Core.Logic.{_⊎_, inl, inr, ⊎-elim}
+use mathlib.Core.Logic.{inl, inr}
 use mathlib.Core.Path.{_≡_, refl, sym, ap, ap₂, subst, _∙_, fun-ext}
-use Prim.Native.Nat.{ℕ, _+_, _*_, _<_, _≤_}
+use Prim.Native.Nat.{ℕ, _+_, _*_, _<_}
 use native.Mathlib.Omega.{arith}
 use lib.Dec.{eqb}
 use lib.ListN.{length, getD, set}
@@ -16,10 +16,10 @@ use Rattle.std.proofs.shelf.Tests.{cases-bool, cases-eq, cases-lt, cond-true, c
 use Rattle.model.specs.declared.tickets.Entity.{Entity}
 use Rattle.model.specs.Refusals.{granted, refused}
 use Rattle.model.specs.Tickets.{Tickets}
-use Rattle.model.specs.State.{State, Table, standing, kind-in, holding, put, stored}
+use Rattle.model.specs.State.{State, standing, holding, put, stored}
 use Rattle.model.specs.Calls.{store-answer}
 use Rattle.holdings.specs.declared.rows.Rows.{Rows}
-use Rattle.holdings.specs.Rows.{size, in-rows, roll, place-of}
+use Rattle.holdings.specs.Rows.{size, in-rows, roll}
 use Rattle.holdings.proofs.Places.{place-some}
 use Rattle.cells.specs.Layout.{Laid, Nested, unpack, square, cell-of, in-cell, held, meant}
 use Rattle.cells.proofs.Cells.{pair-cell, same-cell, same-row, same-column, standing-cell, count-is, few}
@@ -40,10 +40,13 @@ module _ (rows : Rows) (cells : List ℕ) (laid : Laid rows cells) (h y : ℕ) (
   st = meant (roll rows) n cells
 
   -- a pair without a cell is refused
-  pub no-cell : cell-of es n h y ≡ None → refused 1 ≡ store-answer (square n) st h y s
-  no-cell e = sym (cond-false _ _ _ (standing-cell es n h y ∙ ap isSome e))
+  pub no-cell : None ≡ cell-of es n h y → refused 1 ≡ store-answer (square n) st h y s
+  no-cell e = sym (cond-false _ _ _ (standing-cell es n h y ∙ ap isSome (sym e)))
 
-  module _ (k w : ℕ) (at : cell-of es n h y ≡ Some k) (word : unpack w ≡ s) where
+  module _ (k w : ℕ) (found : Some k ≡ cell-of es n h y) (word : unpack w ≡ s) where
+    at : cell-of es n h y ≡ Some k
+    at = sym found
+
     both : (standing st h && standing st y) ≡ true
     both = standing-cell es n h y ∙ ap isSome at
 

@@ -1,8 +1,8 @@
 -- What a table keeps true makes its meaning orderly.
-use mathlib.Core.Bool.{Bool, true, false, _&&_}
-use mathlib.Core.Path.{_≡_, refl, sym, ap, subst, _∙_}
+use mathlib.Core.Bool.{Bool, true, false}
+use mathlib.Core.Path.{_≡_, refl, sym, _∙_}
 use mathlib.Core.List.{List}
-use Prim.Native.Nat.{ℕ, _+_, _*_, _/_, _%_}
+use Prim.Native.Nat.{ℕ, _/_, _%_}
 use lib.ListN.{getD}
 use Rattle.std.specs.Options.{isSome}
 use Rattle.std.specs.declared.option.Option.{Option}
@@ -14,7 +14,7 @@ use Rattle.model.specs.Laws.{Orderly}
 use Rattle.holdings.specs.declared.rows.Rows.{Rows}
 use Rattle.holdings.specs.Rows.{size, in-rows, roll, place-of}
 use Rattle.holdings.proofs.Places.{standing-place}
-use Rattle.cells.specs.Layout.{Laid, Nested, unpack, cell-at, in-cell, meant}
+use Rattle.cells.specs.Layout.{Laid, Nested, cell-at, in-cell, meant}
 
 has-none : (x : ℕ) (c : Bool) → has none x c ≡ true → ⊥
 has-none x true h = false≢true (sym (bit-zero x) ∙ h)

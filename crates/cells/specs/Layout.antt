@@ -16,7 +16,7 @@ use Rattle.model.specs.Tickets.{Tickets, none}
 use Rattle.model.specs.State.{State, Table, Room, holding}
 use Rattle.model.specs.Calls.{check, decide}
 use Rattle.holdings.specs.declared.rows.Rows.{Rows}
-use Rattle.holdings.specs.Rows.{In-order, size, roll, place-of}
+use Rattle.holdings.specs.Rows.{In-order, size, place-of}
 
 -- memory that fits: from 1 to 512 rows, and a cell for every pair of them
 abbrev pub fit : ℕ → ℕ → Bool

@@ -9,7 +9,8 @@ ghost use Rattle.cells.specs.Squeeze.{squeezed, Squeezed};
 // The place that moves up to `i` where the place `out` is taken out.
 fn past(out: usize, i: usize) -> usize
     requires { ⌜ i < 512 ⌝ }
-    ensures { λ r. ⌜ r ≡ past out i ⌝ }
+    ensures place { λ r. ⌜ r ≡ past out i ⌝ }
+    ensures within { λ r. ⌜ r ≤ i + 1 ⌝ }
 {
     if i < out { i } else { i + 1 }
 }

@@ -70,7 +70,8 @@ impl<'r> Rows<'r> {
         }
     }
 
-    /// The place of the entity with a number, or none where it does not stand.
+    /// The place of the entity with a number, or none where it does not stand. Numbers rise along the rows, so each look
+    /// at the middle one leaves half of them.
     pub fn find(&self, number: u32) -> Option<usize>
         requires { ⌜ In-order (now self) ⌝ }
         ensures { λ r. ⌜ r ≡ place-of (in-rows (now (self .entry))) number ⌝ }

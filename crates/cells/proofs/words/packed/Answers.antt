@@ -1,10 +1,10 @@
 use mathlib.Core.Path.{_≡_, sym, ap, ap₂, _∙_, subst}
-use Prim.Native.Nat.{ℕ, _+_, _*_, _/_, _%_, _<_}
+use Prim.Native.Nat.{ℕ, _+_, _*_, _%_, _<_}
 use native.Mathlib.Omega.{arith}
 use lib.Bits.{bitOr}
 use Rattle.std.proofs.shelf.Bits.{or-shifted, div-mul-add, mod-mul-add}
 use Rattle.model.specs.Tickets.{Tickets, tickets-of}
-use Rattle.cells.specs.Layout.{unpack, Nested}
+use Rattle.cells.specs.Layout.{unpack}
 use Rattle.cells.proofs.words.packed.Needs as need
 
 of-parts : (p q : ℕ) → p < 65536 → q < 65536 → unpack (bitOr (q * 65536 % 4294967296) p) ≡ record { plain = p; copyable = q }

@@ -1,8 +1,6 @@
-use mathlib.Core.Path.{refl, sym, ap, subst}
-use Prim.Native.Nat.{ℕ, _*_}
-use Rattle.holdings.specs.Rows.{size, in-rows, roll}
+use mathlib.Core.Path.{refl, sym, ap}
+use Rattle.holdings.specs.Rows.{size, roll}
 use Rattle.cells.specs.Layout.{square}
-use Rattle.cells.specs.Squeeze.{Squeezed}
 use Rattle.cells.proofs.Removes.{removed-none, removed-laid, removed-state, at-sizes}
 use Rattle.cells.proofs.table.CellHoldingsMut.remove.Needs as need
 

@@ -1,5 +1,4 @@
 use native.Mathlib.Omega.{arith}
-use mathlib.Core.Path.{sym}
 use Rattle.holdings.proofs.Searches.{lower-half, higher-half, found, not-found}
 use Rattle.holdings.proofs.rows.Rows.find.Needs as need
 

@@ -1,5 +1,4 @@
 use mathlib.Core.Path.{refl}
-use native.Mathlib.Omega.{arith}
 use Rattle.holdings.proofs.Takes.{past-last, filed-less}
 use Rattle.holdings.proofs.rows.Rows.remove_at.Needs as need
 

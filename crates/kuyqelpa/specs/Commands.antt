@@ -1,0 +1,26 @@
+-- Which words say which command.
+use mathlib.Core.List.{List}
+use mathlib.Core.Path.{_≡_}
+use Prim.Native.Nat.{ℕ}
+use lib.Chars.{codes}
+use Rattle.std.specs.Options.{Cases}
+use Rattle.std.specs.declared.option.Option.{Option}
+use Rattle.std.specs.declared.option.Option.the-variants.{Some, None}
+use Rattle.kuyqelpa.specs.declared.command.Command.{Command}
+use Rattle.kuyqelpa.specs.declared.command.Command.the-variants.{Scheme, Cells, Enter, Place, Open, Ask, Show}
+use Rattle.kuyqelpa.specs.Numbers.{number-of}
+use Rattle.kuyqelpa.specs.Words.{kind-of, Says}
+
+-- there is a word, and this holds of it
+abbrev Is : Option (List ℕ) → (List ℕ → Type 0) → Type 0
+Is word P = Cases word ⊥ P
+
+-- a name, and the words that may follow it, say a command
+abbrev pub Means : List ℕ → Option (List ℕ) → Option (List ℕ) → Command → Type 0
+Means name first second Scheme = (name ≡ codes "scheme") × Is first (λ w. w ≡ codes "card") × (second ≡ None)
+Means name first second (Cells n) = (name ≡ codes "cells") × Is first (λ w. number-of w ≡ Some n) × (second ≡ None)
+Means name first second (Enter k) = (name ≡ codes "enter") × Is first (λ w. kind-of w ≡ Some k) × (second ≡ None)
+Means name first second (Place a t) = (name ≡ codes "place") × Is first (λ w. number-of w ≡ Some a) × Is second (λ w. Says w t)
+Means name first second Open = (name ≡ codes "open") × (first ≡ None) × (second ≡ None)
+Means name first second (Ask a t) = (name ≡ codes "ask") × Is first (λ w. number-of w ≡ Some a) × Is second (λ w. Says w t)
+Means name first second Show = (name ≡ codes "show") × (first ≡ None) × (second ≡ None)
