@@ -52,7 +52,11 @@ impl TicketSet {
     pub fn has(self, ticket: Ticket) -> bool
         ensures { λ r. ⌜ r ≡ has (tickets-of self) (ticket .right) (ticket .copy) ⌝ }
     {
-        let mask = if ticket.copy { self.copyable } else { self.plain };
+        let mask = if ticket.copy {
+            self.copyable
+        } else {
+            self.plain
+        };
         ticket.right < 16 && (mask >> ticket.right) % 2 == 1
     }
 

@@ -48,8 +48,9 @@ pub first-stays : (p : ℕ → Bool) (i m n : ℕ) → m ≤ n → first p (upto
 first-stays p i m zero l e = let q : 0 ≡ m = omega arith in ap (λ (k : ℕ). first p (upto k)) q ∙ e
 first-stays p i m (suc n) l e =
     elim (cases-eq m (suc n)) [
-      inl q ↦ ap (λ (k : ℕ). first p (upto k)) (sym q) ∙ e
-    | inr q ↦ first-push p (upto n) n ∙ ap (λ (o : Option ℕ). or-else o (cond (p n) (Some n) None)) (first-stays p i m n (omega arith) e) ]
+      | inl q ↦ ap (λ (k : ℕ). first p (upto k)) (sym q) ∙ e
+      | inr q ↦ first-push p (upto n) n ∙ ap (λ (o : Option ℕ). or-else o (cond (p n) (Some n) None)) (first-stays p i m n (omega arith) e)
+    ]
 
 pub some-stays : (p : ℕ → Bool) (m n : ℕ) → m ≤ n → isSome (first p (upto m)) ≡ true → isSome (first p (upto n)) ≡ true
 some-stays p m n l e = go (first p (upto m)) refl e

@@ -17,7 +17,13 @@ pub(crate) struct Parties {
 }
 
 // What most calls check first: holder and target stand, the holder is a subject, and the scheme has the right.
-pub(crate) fn check_parties<S: Scheme, H: Holdings>(scheme: &S, holdings: &mut H, holder: u32, target: u32, right: u8) -> Result<Parties, Refusal>
+pub(crate) fn check_parties<S: Scheme, H: Holdings>(
+    scheme: &S,
+    holdings: &mut H,
+    holder: u32,
+    target: u32,
+    right: u8,
+) -> Result<Parties, Refusal>
     requires { ⌜ H·Holdings .ok (now holdings) ⌝ }
     ensures same { λ _. ⌜ now (holdings .exit) ≡ now (holdings .entry) ⌝ }
     ensures answer { λ r. ⌜ bare (told r) ≡ passed (party-checks (S·Scheme .meaning (now (scheme .entry))) (H·Holdings .meaning (now (holdings .entry))) holder target right) ⌝ }
@@ -38,7 +44,13 @@ pub(crate) fn check_parties<S: Scheme, H: Holdings>(scheme: &S, holdings: &mut H
 
 /// Whether the holder has the ticket for the target. Refused where holder or target does not stand, where the holder
 /// is no subject, and where the scheme has no such right. It serves whatever can be read.
-pub fn question<S: Scheme, H: Holdings>(scheme: &S, holdings: &mut H, holder: u32, target: u32, ticket: Ticket) -> Result<bool, Refusal>
+pub fn question<S: Scheme, H: Holdings>(
+    scheme: &S,
+    holdings: &mut H,
+    holder: u32,
+    target: u32,
+    ticket: Ticket,
+) -> Result<bool, Refusal>
     requires { ⌜ H·Holdings .ok (now holdings) ⌝ }
     ensures same { λ _. ⌜ now (holdings .exit) ≡ now (holdings .entry) ⌝ }
     ensures answer { λ r. ⌜ told r ≡ question-answer (S·Scheme .meaning (now (scheme .entry))) (H·Holdings .meaning (now (holdings .entry))) holder target (ticket .right) (ticket .copy) ⌝ }

@@ -22,7 +22,14 @@ struct CopyParties {
 }
 
 // What a copy checks first: giver, taker and target stand, giver and taker are subjects, and the scheme has the right.
-fn check_copy_parties<S: Scheme, H: Holdings>(scheme: &S, holdings: &mut H, giver: u32, taker: u32, target: u32, right: u8) -> Result<CopyParties, Refusal>
+fn check_copy_parties<S: Scheme, H: Holdings>(
+    scheme: &S,
+    holdings: &mut H,
+    giver: u32,
+    taker: u32,
+    target: u32,
+    right: u8,
+) -> Result<CopyParties, Refusal>
     requires { ⌜ H·Holdings .ok (now holdings) ⌝ }
     ensures same { λ _. ⌜ now (holdings .exit) ≡ now (holdings .entry) ⌝ }
     ensures answer { λ r. ⌜ bare (told r) ≡ passed (copy-party-checks (S·Scheme .meaning (now (scheme .entry))) (H·Holdings .meaning (now (holdings .entry))) giver taker target right) ⌝ }
@@ -62,7 +69,14 @@ fn sight<S: Scheme, H: Holdings>(scheme: &S, holdings: &mut H, x: u32, y: u32) -
 
 // The lowest link that holds and whose filter passes the ticket. Refused where no link holds, and then where none
 // that holds passes it.
-fn lowest_link<S: Scheme>(scheme: &S, sight: Sight, giver: u8, taker: u8, target: u8, ticket: Ticket) -> Result<u8, Refusal>
+fn lowest_link<S: Scheme>(
+    scheme: &S,
+    sight: Sight,
+    giver: u8,
+    taker: u8,
+    target: u8,
+    ticket: Ticket,
+) -> Result<u8, Refusal>
     ensures { λ r. ⌜ told r ≡ lowest-answer (S·Scheme .meaning (now (scheme .entry))) sight giver taker target (ticket .right) (ticket .copy) ⌝ }
 {
     let mut linked = false;
@@ -82,7 +96,14 @@ fn lowest_link<S: Scheme>(scheme: &S, sight: Sight, giver: u8, taker: u8, target
 }
 
 // Copies a ticket for the target from the giver to the taker.
-pub(crate) fn copy<S: Scheme, H: HoldingsMut>(scheme: &S, holdings: &mut H, giver: u32, taker: u32, target: u32, ticket: Ticket) -> Result<u8, Refusal>
+pub(crate) fn copy<S: Scheme, H: HoldingsMut>(
+    scheme: &S,
+    holdings: &mut H,
+    giver: u32,
+    taker: u32,
+    target: u32,
+    ticket: Ticket,
+) -> Result<u8, Refusal>
     requires { ⌜ H·Holdings .ok (now holdings) ⌝ }
     ensures ok { λ _. ⌜ H·Holdings .ok (now (holdings .exit)) ⌝ }
     ensures room { λ _. ⌜ H·HoldingsMut .room (now (holdings .exit)) ≡ H·HoldingsMut .room (now (holdings .entry)) ⌝ }

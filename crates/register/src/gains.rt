@@ -12,7 +12,12 @@ use model::TicketSet;
 use scheme::Scheme;
 
 // Adds a ticket to what the holder has for the target: with the copy flag, both the plain and the copyable one.
-pub(crate) fn gain<H: HoldingsMut>(holdings: &mut H, holder: u32, target: u32, ticket: Ticket) -> Result<(), Refusal>
+pub(crate) fn gain<H: HoldingsMut>(
+    holdings: &mut H,
+    holder: u32,
+    target: u32,
+    ticket: Ticket,
+) -> Result<(), Refusal>
     requires ok { ⌜ H·Holdings .ok (now holdings) ⌝ }
     requires known { ⌜ ticket .right < 16 ⌝ }
     ensures ok { λ _. ⌜ H·Holdings .ok (now (holdings .exit)) ⌝ }
@@ -25,7 +30,13 @@ pub(crate) fn gain<H: HoldingsMut>(holdings: &mut H, holder: u32, target: u32, t
 }
 
 // Gives the demander a ticket for the target that the scheme lets it demand.
-pub(crate) fn demand<S: Scheme, H: HoldingsMut>(scheme: &S, holdings: &mut H, demander: u32, target: u32, ticket: Ticket) -> Result<(), Refusal>
+pub(crate) fn demand<S: Scheme, H: HoldingsMut>(
+    scheme: &S,
+    holdings: &mut H,
+    demander: u32,
+    target: u32,
+    ticket: Ticket,
+) -> Result<(), Refusal>
     requires { ⌜ H·Holdings .ok (now holdings) ⌝ }
     ensures ok { λ _. ⌜ H·Holdings .ok (now (holdings .exit)) ⌝ }
     ensures room { λ _. ⌜ H·HoldingsMut .room (now (holdings .exit)) ≡ H·HoldingsMut .room (now (holdings .entry)) ⌝ }

@@ -37,7 +37,13 @@ impl<S: Scheme, H: HoldingsMut> Register<S, H> {
     /// target does not stand, where giver or taker is no subject, where the scheme has no such right, where the giver
     /// lacks the copyable ticket, where no link holds, where none that holds passes it, and where there is no room for
     /// the pair.
-    pub fn copy(&mut self, giver: u32, taker: u32, target: u32, ticket: Ticket) -> Result<u8, Refusal>
+    pub fn copy(
+        &mut self,
+        giver: u32,
+        taker: u32,
+        target: u32,
+        ticket: Ticket,
+    ) -> Result<u8, Refusal>
         requires { ⌜ Kept (H·Holdings .ok (now self .holdings)) (S·Scheme .meaning (now self .scheme)) (H·Holdings .meaning (now self .holdings)) ⌝ }
         ensures kept { λ _. ⌜ Kept (H·Holdings .ok (now (self .exit) .holdings)) (S·Scheme .meaning (now (self .exit) .scheme)) (H·Holdings .meaning (now (self .exit) .holdings)) ⌝ }
         ensures scheme { λ _. ⌜ now (self .exit) .scheme ≡ now (self .entry) .scheme ⌝ }
@@ -46,7 +52,14 @@ impl<S: Scheme, H: HoldingsMut> Register<S, H> {
         ensures state { λ _. ⌜ H·Holdings .meaning (now (self .exit) .holdings) ≡ step (S·Scheme .meaning (now (self .entry) .scheme)) (H·HoldingsMut .room (now (self .entry) .holdings)) (H·Holdings .meaning (now (self .entry) .holdings)) (copying giver taker target (ticket .right) (ticket .copy)) ⌝ }
         ensures model { λ r. ⌜ Copied (S·Scheme .meaning (now (self .entry) .scheme)) (H·HoldingsMut .room (now (self .entry) .holdings)) (H·Holdings .meaning (now (self .entry) .holdings)) giver taker target (ticket .right) (ticket .copy) (told r) (H·Holdings .meaning (now (self .exit) .holdings)) ⌝ }
     {
-        copies::copy(&self.scheme, &mut self.holdings, giver, taker, target, ticket)
+        copies::copy(
+            &self.scheme,
+            &mut self.holdings,
+            giver,
+            taker,
+            target,
+            ticket,
+        )
     }
 
     /// Gives the demander a ticket for the target that the scheme lets it demand. Refused where demander or target does not

@@ -62,7 +62,13 @@ impl<S: Scheme, H: HoldingsMut> SetUp<S, H> {
         ensures answer { λ r. ⌜ told r ≡ bare (entry-answer (S·Scheme .meaning (now (self .entry) .scheme)) (H·HoldingsMut .room (now (self .entry) .holdings)) (H·Holdings .meaning (now (self .entry) .holdings)) (placing holder target (ticket .right) (ticket .copy))) ⌝ }
         ensures state { λ _. ⌜ H·Holdings .meaning (now (self .exit) .holdings) ≡ entry-step (S·Scheme .meaning (now (self .entry) .scheme)) (H·HoldingsMut .room (now (self .entry) .holdings)) (H·Holdings .meaning (now (self .entry) .holdings)) (placing holder target (ticket .right) (ticket .copy)) ⌝ }
     {
-        check_parties(&self.scheme, &mut self.holdings, holder, target, ticket.right)?;
+        check_parties(
+            &self.scheme,
+            &mut self.holdings,
+            holder,
+            target,
+            ticket.right,
+        )?;
         gain(&mut self.holdings, holder, target, ticket)
     }
 

@@ -10,7 +10,13 @@ use model::Ticket;
 use scheme::Scheme;
 
 // Takes a right for the target from the holder, plain and copyable.
-pub(crate) fn drop_ticket<S: Scheme, H: HoldingsMut>(scheme: &S, holdings: &mut H, holder: u32, target: u32, right: u8) -> Result<(), Refusal>
+pub(crate) fn drop_ticket<S: Scheme, H: HoldingsMut>(
+    scheme: &S,
+    holdings: &mut H,
+    holder: u32,
+    target: u32,
+    right: u8,
+) -> Result<(), Refusal>
     requires { ⌜ H·Holdings .ok (now holdings) ⌝ }
     ensures ok { λ _. ⌜ H·Holdings .ok (now (holdings .exit)) ⌝ }
     ensures room { λ _. ⌜ H·HoldingsMut .room (now (holdings .exit)) ≡ H·HoldingsMut .room (now (holdings .entry)) ⌝ }

@@ -59,7 +59,7 @@ returns-in-Break-link g c =
     let read = c .tickets .ensures .same ∙ asked in
     let same = c .sight-seen .ensures .same ∙ read in
     let flag : holds st a y x true ≡ true =
-        ap (λ s. has s x true) (sym (c .tickets .ensures .value ∙ ap (λ z. g .H·Holdings .meaning z .tickets a y) asked)) ∙ sym (c .has .ensures) ∙ c .if-not-has .left in
+    ap (λ s. has s x true) (sym (c .tickets .ensures .value ∙ ap (λ z. g .H·Holdings .meaning z .tickets a y) asked)) ∙ sym (c .has .ensures) ∙ c .if-not-has .left in
     let seen = c .sight-seen .ensures .value ∙ ap (λ z. sight S (g .H·Holdings .meaning z) a b) read in
     let low = lowest-in S st a b y x f (c .sight-seen .result) (c .in-Continue-kinds .kinds .giver) (c .in-Continue-kinds .kinds .taker) (c .in-Continue-kinds .kinds .target) seen (k .0) (k .1) (k .2) in
     let n = refusal-number (c .in-Break-link .field-0 .0) in
@@ -93,7 +93,7 @@ returns-in-Break-gain g c =
     let read = c .tickets .ensures .same ∙ asked in
     let same = c .sight-seen .ensures .same ∙ read in
     let flag : holds st a y x true ≡ true =
-        ap (λ s. has s x true) (sym (c .tickets .ensures .value ∙ ap (λ z. g .H·Holdings .meaning z .tickets a y) asked)) ∙ sym (c .has .ensures) ∙ c .if-not-has .left in
+    ap (λ s. has s x true) (sym (c .tickets .ensures .value ∙ ap (λ z. g .H·Holdings .meaning z .tickets a y) asked)) ∙ sym (c .has .ensures) ∙ c .if-not-has .left in
     let seen = c .sight-seen .ensures .value ∙ ap (λ z. sight S (g .H·Holdings .meaning z) a b) read in
     let low = lowest-in S st a b y x f (c .sight-seen .result) (c .in-Continue-kinds .kinds .giver) (c .in-Continue-kinds .kinds .taker) (c .in-Continue-kinds .kinds .target) seen (k .0) (k .1) (k .2) in
     let found = c .in-Continue-link .ensures tt ∙ low in
@@ -101,9 +101,9 @@ returns-in-Break-gain g c =
     let both = taker-stands S st a b y x f p in
     let e = c .gain .ensures in
     let state = gain-state (g .H·HoldingsMut .room) (g .H·Holdings .meaning) h (c .sight-seen .last .holdings) (c .gain .last .holdings) same
-        b y x f (told (c .gain .result)) (e .room) (e .answer) (e .state) (copy-front S st a b y x f) q both reply in
+    b y x f (told (c .gain .result)) (e .room) (e .answer) (e .state) (copy-front S st a b y x f) q both reply in
     let answered = gain-answer (g .H·HoldingsMut .room) (g .H·Holdings .meaning) h (c .sight-seen .last .holdings) (c .gain .last .holdings) same
-        b y x f (told (c .gain .result)) (e .room) (e .answer) (e .state) (copy-front S st a b y x f) q both reply in
+    b y x f (told (c .gain .result)) (e .room) (e .answer) (e .state) (copy-front S st a b y x f) q both reply in
     let n = refusal-number (c .in-Break-gain .field-0 .0) in
     let out = err-from-errBy (c .from-residual-in-Break-gain .result) (c .from-residual-in-Break-gain .ensures .1) in
     let no : refused n ≡ _ = sym (ap told (c .in-Break-gain .was tt)) ∙ answered in
@@ -133,7 +133,7 @@ returns g c =
     let read = c .tickets .ensures .same ∙ asked in
     let same = c .sight-seen .ensures .same ∙ read in
     let flag : holds st a y x true ≡ true =
-        ap (λ s. has s x true) (sym (c .tickets .ensures .value ∙ ap (λ z. g .H·Holdings .meaning z .tickets a y) asked)) ∙ sym (c .has .ensures) ∙ c .if-not-has .left in
+    ap (λ s. has s x true) (sym (c .tickets .ensures .value ∙ ap (λ z. g .H·Holdings .meaning z .tickets a y) asked)) ∙ sym (c .has .ensures) ∙ c .if-not-has .left in
     let seen = c .sight-seen .ensures .value ∙ ap (λ z. sight S (g .H·Holdings .meaning z) a b) read in
     let low = lowest-in S st a b y x f (c .sight-seen .result) (c .in-Continue-kinds .kinds .giver) (c .in-Continue-kinds .kinds .taker) (c .in-Continue-kinds .kinds .target) seen (k .0) (k .1) (k .2) in
     let found = c .in-Continue-link .ensures tt ∙ low in
@@ -141,9 +141,9 @@ returns g c =
     let both = taker-stands S st a b y x f p in
     let e = c .gain .ensures in
     let state = gain-state (g .H·HoldingsMut .room) (g .H·Holdings .meaning) h (c .sight-seen .last .holdings) (c .gain .last .holdings) same
-        b y x f (told (c .gain .result)) (e .room) (e .answer) (e .state) (copy-front S st a b y x f) q both reply in
+    b y x f (told (c .gain .result)) (e .room) (e .answer) (e .state) (copy-front S st a b y x f) q both reply in
     let answered = gain-answer (g .H·HoldingsMut .room) (g .H·Holdings .meaning) h (c .sight-seen .last .holdings) (c .gain .last .holdings) same
-        b y x f (told (c .gain .result)) (e .room) (e .answer) (e .state) (copy-front S st a b y x f) q both reply in
+    b y x f (told (c .gain .result)) (e .room) (e .answer) (e .state) (copy-front S st a b y x f) q both reply in
     let yes = sym (ap told (c .in-Continue-gain .was tt)) ∙ answered in
     record {
       ok = e .ok;

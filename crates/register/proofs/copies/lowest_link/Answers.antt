@@ -23,10 +23,11 @@ loop-link-again g c =
     let t = c .args .ticket in
     let i = c .loop-link .link in
     elim (c .if-link .came) [
-      then-link·else-has w ↦
-        let n = link-passed-over S v (c .args .giver) (c .args .taker) (c .args .target) (t .right) (t .copy) i (c .loop-link .inv .0) (sym (c .link .ensures) ∙ w .if-link .taken)
-            (ap (λ (s : Tickets). has s (t .right) (t .copy)) (sym (w .filter .ensures)) ∙ sym (w .has .ensures) ∙ w .if-has .left) in
-        (n .0, w .linked-is ∙ n .1)
-    | else-link w ↦
-        let n = link-off S v (c .args .giver) (c .args .taker) (c .args .target) (t .right) (t .copy) i (c .loop-link .linked) (c .loop-link .inv .0) (c .loop-link .inv .1) (sym (c .link .ensures) ∙ w .if-link .left) in
-        (n .0, w .linked-is ∙ n .1) ]
+      | then-link·else-has w ↦
+          let n = link-passed-over S v (c .args .giver) (c .args .taker) (c .args .target) (t .right) (t .copy) i (c .loop-link .inv .0) (sym (c .link .ensures) ∙ w .if-link .taken)
+          (ap (λ (s : Tickets). has s (t .right) (t .copy)) (sym (w .filter .ensures)) ∙ sym (w .has .ensures) ∙ w .if-has .left) in
+          (n .0, w .linked-is ∙ n .1)
+      | else-link w ↦
+          let n = link-off S v (c .args .giver) (c .args .taker) (c .args .target) (t .right) (t .copy) i (c .loop-link .linked) (c .loop-link .inv .0) (c .loop-link .inv .1) (sym (c .link .ensures) ∙ w .if-link .left) in
+          (n .0, w .linked-is ∙ n .1)
+    ]

@@ -48,15 +48,15 @@ returns g c =
     let p = c .in-Continue-kinds .ensures tt .answer in
     let k = c .in-Continue-kinds .ensures tt .kinds in
     let lets : demands S st b y (t .right) (t .copy) ≡ true =
-        ap (λ (s : Tickets). has s (t .right) (t .copy)) (sym (ap₂ (S .demand) (k .0) (k .1)) ∙ sym (c .demand .ensures)) ∙ sym (c .has .ensures) ∙ c .if-not-has .left in
+    ap (λ (s : Tickets). has s (t .right) (t .copy)) (sym (ap₂ (S .demand) (k .0) (k .1)) ∙ sym (c .demand .ensures)) ∙ sym (c .has .ensures) ∙ c .if-not-has .left in
     let front = party-checks S st b y (t .right) ++ check NotDemandable (demands S st b y (t .right) (t .copy)) ∷ [] in
     let q : granted tt ≡ passed front =
-        next-passed (party-checks S st b y (t .right)) (check NotDemandable (demands S st b y (t .right) (t .copy))) p (sym (cond-true (demands S st b y (t .right) (t .copy)) (granted tt) (refused 7) lets)) in
+    next-passed (party-checks S st b y (t .right)) (check NotDemandable (demands S st b y (t .right) (t .copy))) p (sym (cond-true (demands S st b y (t .right) (t .copy)) (granted tt) (refused 7) lets)) in
     let same = c .in-Continue-kinds .ensures tt .same in
     let e = c .gain .ensures in
     let both = both-stand S st b y (t .right) p in
     let state = gain-state (g .H·HoldingsMut .room) (g .H·Holdings .meaning) h (c .check-parties .last .holdings) (c .gain .last .holdings) same
-        b y (t .right) (t .copy) (told (c .gain .result)) (e .room) (e .answer) (e .state) front q both 0 in
+    b y (t .right) (t .copy) (told (c .gain .result)) (e .room) (e .answer) (e .state) front q both 0 in
     record {
       ok = e .ok;
       room = e .room ∙ ap (g .H·HoldingsMut .room) same;

@@ -17,8 +17,8 @@ returns g c =
     let t = c .args .ticket in
     let same = c .tickets-held .ensures .same in
     let set : tickets-of (c .join .result) ≡ gained st a y (t .right) (t .copy) =
-        c .join .ensures ∙ ap (λ s. join s (tickets-of (c .of .result))) (c .tickets-held .ensures .value)
-        ∙ ap (join (st .tickets a y)) (c .of .ensures ∙ cond-true (ltb (t .right) 16) (ticket-of (t .right) (t .copy)) none (lt-ltb (t .right) 16 (c .pre .known))) in
+    c .join .ensures ∙ ap (λ s. join s (tickets-of (c .of .result))) (c .tickets-held .ensures .value)
+    ∙ ap (join (st .tickets a y)) (c .of .ensures ∙ cond-true (ltb (t .right) 16) (ticket-of (t .right) (t .copy)) none (lt-ltb (t .right) 16 (c .pre .known))) in
     record {
       ok = c .store .ensures .ok;
       room = c .store .ensures .room ∙ ap (g .H·HoldingsMut .room) same;

@@ -51,13 +51,13 @@ returns g c =
     let e = c .store .ensures in
     let r = told (c .store .result) in
     let done : r ≡ granted tt =
-        e .answer ∙ ap (λ z. store-answer (g .H·HoldingsMut .room z) (g .H·Holdings .meaning z) a y (tickets-of (c .without .result))) same
-        ∙ drop-stored S R st a y x p has-it (tickets-of (c .without .result)) in
+    e .answer ∙ ap (λ z. store-answer (g .H·HoldingsMut .room z) (g .H·Holdings .meaning z) a y (tickets-of (c .without .result))) same
+    ∙ drop-stored S R st a y x p has-it (tickets-of (c .without .result)) in
     let yes = drop-granted S R st a y x p has-it in
     let state =
-        e .state ∙ ap (λ z. after r (stored (g .H·Holdings .meaning z) a y (tickets-of (c .without .result))) (g .H·Holdings .meaning z)) same
-        ∙ ap (λ s. after r (stored st a y s) st) set ∙ ap (λ q. after q (stored st a y (without-right (st .tickets a y) x)) st) done
-        ∙ ap (λ q. after q (stored st a y (without-right (st .tickets a y) x)) st) yes in
+    e .state ∙ ap (λ z. after r (stored (g .H·Holdings .meaning z) a y (tickets-of (c .without .result))) (g .H·Holdings .meaning z)) same
+    ∙ ap (λ s. after r (stored st a y s) st) set ∙ ap (λ q. after q (stored st a y (without-right (st .tickets a y) x)) st) done
+    ∙ ap (λ q. after q (stored st a y (without-right (st .tickets a y) x)) st) yes in
     record {
       ok = e .ok;
       room = e .room ∙ ap (g .H·HoldingsMut .room) same;

@@ -61,7 +61,7 @@ returns g c =
     let e = c .gain .ensures in
     let same = c .in-Continue-check-parties .ensures tt .same in
     let state = gain-state (g .H·HoldingsMut .room) (g .H·Holdings .meaning) h (c .check-parties .last .holdings) (c .gain .last .holdings) same
-        a y (t .right) (t .copy) (told (c .gain .result)) (e .room) (e .answer) (e .state) front p both 0 in
+    a y (t .right) (t .copy) (told (c .gain .result)) (e .room) (e .answer) (e .state) front p both 0 in
     record {
       kept = entry-kept S R st _ (e .ok) w (c .pre .sound) (placing a y (t .right) (t .copy)) _ state;
       scheme = refl;
