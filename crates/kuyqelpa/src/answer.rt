@@ -153,11 +153,11 @@ fn granted<W: fmt::Write>(
             Answer::Linked { link },
         ) => write!(
             f,
-            "Link {link} leads from entity {giver} to entity {taker} and passes this. Entity {taker} now holds {ticket}."
+            "Link {link} holds from entity {giver} to entity {taker} and passes this ticket. Entity {taker} now holds {ticket}."
         ),
         (Command::Demand { demander, ticket }, _) => write!(
             f,
-            "The rules give this to entity {demander} for the asking. It now holds {ticket}."
+            "The rules give this ticket to entity {demander} for the asking. It now holds {ticket}."
         ),
         (Command::Drop { holder, ticket }, _) => write!(
             f,
