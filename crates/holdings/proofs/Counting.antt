@@ -10,10 +10,10 @@ use Rattle.std.proofs.shelf.Bits.{mul-le}
 use Rattle.std.proofs.shelf.Lists.{take-more, length-take-le}
 use Rattle.std.proofs.shelf.Maps.{nth-getD}
 use Rattle.model.specs.declared.tickets.Entity.{Entity}
-use Rattle.model.specs.State.{State, Table, count-targets, count-pairs}
+use Rattle.model.specs.State.{State, Table, count-targets, count-pairs, takes}
 use Rattle.model.specs.Laws.{Rising, Orderly}
 use Rattle.model.proofs.Entities.{same-inside, Some≢None}
-use Rattle.model.proofs.Filling.{takes, targets-le, targets-push, pairs-le, pairs-push}
+use Rattle.model.proofs.Filling.{targets-le, targets-push, pairs-le, pairs-push}
 use Rattle.holdings.proofs.Places.{blank}
 
 -- there is an entity at every place before the last

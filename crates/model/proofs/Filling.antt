@@ -14,19 +14,11 @@ use Rattle.std.specs.Options.{isSome}
 use Rattle.std.proofs.shelf.Tests.{cases-bool, both-ways, cond-true, cond-false, cond-both, eqb-true, eq-eqb, ne-eqb, false≢true, and-parts, and-from, and-left, and-right}
 use Rattle.model.specs.declared.tickets.Entity.{Entity}
 use Rattle.model.specs.Tickets.{Tickets, bit, has, none, empty, join}
-use Rattle.model.specs.State.{State, Table, kind-in, standing, put, gain, added, holding, stored, count-targets, count-pairs, filled}
+use Rattle.model.specs.State.{State, Table, kind-in, standing, put, gain, added, holding, stored, count-targets, count-pairs, filled, takes, takes-beside}
 use Rattle.model.specs.Laws.{Rising, Orderly}
 use Rattle.model.proofs.Bits.{bit-zero, bit-or, same-bits}
 use Rattle.model.proofs.Entities.{free}
 use Rattle.model.proofs.Tables.{empty-has, join-left}
-
--- how many pairs a set takes in its place: one where it is not empty
-abbrev pub takes : Tickets → ℕ
-takes s = cond (empty s) 0 1
-
--- how many more are taken where a set is gained beside another: one where that was empty and this is not
-abbrev pub takes-beside : Tickets → Tickets → ℕ
-takes-beside v s = cond (empty v) (takes s) 0
 
 pub takes-le : (s : Tickets) → takes s ≤ 1
 takes-le s = cond-both (empty s) 0 1 (λ (n : ℕ). n ≤ 1) (λ _. omega arith) (λ _. omega arith)

@@ -4,6 +4,7 @@ pub mod Entities
 pub mod Checks
 pub mod Tables
 pub mod Filling
+pub mod Gains
 pub mod Soundness
 pub mod Lowest
 pub mod RuleNumbers

@@ -6,8 +6,7 @@ use Rattle.std.specs.shelf.Maps.{nth}
 use Rattle.std.proofs.shelf.Lists.{take-all}
 use Rattle.std.proofs.shelf.Tests.{cond-true, cond-false}
 use Rattle.model.specs.Tickets.{empty, tickets-of}
-use Rattle.model.specs.State.{count-targets}
-use Rattle.model.proofs.Filling.{takes}
+use Rattle.model.specs.State.{count-targets, takes}
 use Rattle.holdings.proofs.Counting.{not-past, targets-more, few-targets}
 use Rattle.holdings.proofs.filling.filled_targets.Needs as need
 use Rattle.holdings.proofs.filling.filled_targets.Needs.{in-Some·then-not-is-empty, in-Some·else-not-is-empty, in-rest}
