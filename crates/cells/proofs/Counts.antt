@@ -12,19 +12,13 @@ use Rattle.std.specs.Options.{isSome}
 use Rattle.std.proofs.shelf.Tests.{cases-bool, cond-false, eqb-true, false≢true, and-left, and-right, not-from-false, lt-leb}
 use Rattle.model.specs.declared.tickets.Entity.{Entity}
 use Rattle.model.specs.Tickets.{Tickets, empty}
+use Rattle.holdings.specs.declared.rows.Rows.{Rows}
+use Rattle.holdings.specs.Rows.{size, in-rows, roll}
+use Rattle.cells.specs.Layout.{Laid, held, meant}
+use Rattle.cells.proofs.Cells.{count-is}
+use Rattle.std.proofs.shelf.Bits.{mul-le}
+use Rattle.model.proofs.Filling.{takes-le, targets-le, pairs-le, behind}
 use Rattle.model.specs.State.{State, Table, Room, kind-in, standing, count-targets, count-pairs, filled, stores}
-
--- one that stands behind another stands
-behind : (e : Entity) (es : List Entity) (a : ℕ) → eqb (e .number) a ≡ false → isSome (kind-in (e ∷ es) a) ≡ true → isSome (kind-in es a) ≡ true
-behind e es a f h = ap isSome (sym (cond-false _ _ _ f)) ∙ h
-
-one-or-none : (b : Bool) → cond b 0 1 ≤ 1
-one-or-none true = omega arith
-one-or-none false = omega arith
-
-targets-le : (t : Table) (h : ℕ) (ys : List Entity) → count-targets t h ys ≤ length ys
-targets-le t h [] = omega arith
-targets-le t h (y ∷ ys) = omega (arith, one-or-none (empty (t h (y .number))), targets-le t h ys)
 
 targets-lt : (t : Table) (h a : ℕ) (ys : List Entity) → isSome (kind-in ys a) ≡ true → empty (t h a) ≡ true → count-targets t h ys < length ys
 targets-lt t h a [] s z = absurd (false≢true s)
@@ -32,12 +26,8 @@ targets-lt t h a (y ∷ ys) s z = elim (cases-bool (eqb (y .number) a)) [
   | inl e ↦
       let q : empty (t h (y .number)) ≡ true = ap (λ (k : ℕ). empty (t h k)) (eqb-true (y .number) a e) ∙ z in
       subst (λ (b : Bool). cond b 0 1 + count-targets t h ys < suc (length ys)) (sym q) (omega (arith, targets-le t h ys))
-  | inr f ↦ omega (arith, one-or-none (empty (t h (y .number))), targets-lt t h a ys (behind y ys a f s) z)
+  | inr f ↦ omega (arith, takes-le (t h (y .number)), targets-lt t h a ys (behind y ys a f s) z)
 ]
-
-pairs-le : (t : Table) (hs ys : List Entity) → count-pairs t hs ys ≤ length hs * length ys
-pairs-le t [] ys = omega arith
-pairs-le t (h ∷ hs) ys = omega (arith, targets-le t (h .number) ys, pairs-le t hs ys, suc-mul (length hs) (length ys))
 
 pairs-lt : (t : Table) (a b : ℕ) (hs ys : List Entity) → isSome (kind-in hs a) ≡ true → isSome (kind-in ys b) ≡ true → empty (t a b) ≡ true
     → count-pairs t hs ys < length hs * length ys
@@ -58,3 +48,13 @@ always-stores R st h y s big sh sy = elim (cases-bool (empty (st .tickets h y)))
       not-from-false _ (and-right (empty (st .tickets h y) && not (empty s)) _ (lt-leb (R .pairs) (filled st) (omega arith)))
   | inr f ↦ not-from-false _ (and-left _ (leb (R .pairs) (filled st)) (and-left _ (not (empty s)) f))
 ]
+
+-- those that stand make no more pairs than there are, and fill no more than they make
+module _ (rows : Rows) (cells : List ℕ) (laid : Laid rows cells) where
+  pub used-le : length (in-rows rows) * length (in-rows rows) ≤ size rows * size rows
+  used-le =
+      let n : length (in-rows rows) ≤ size rows = omega (arith, count-is rows (laid .order), laid .order .fits) in
+      mul-le (length (in-rows rows)) (length (in-rows rows)) (size rows) (size rows) n n
+
+  pub filled-le : filled (meant (roll rows) (size rows) cells) ≤ length (in-rows rows) * length (in-rows rows)
+  filled-le = pairs-le (held (in-rows rows) (size rows) cells) (in-rows rows) (in-rows rows)

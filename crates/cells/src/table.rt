@@ -3,7 +3,7 @@ ghost use mathlib.Core.Bool.{true};
 ghost use mathlib.Core.Path.{_≡_};
 ghost use denote.Ref.{now};
 ghost use lib.ListN.{length, getD};
-ghost use Prim.Native.Nat.{ℕ, _<_};
+ghost use Prim.Native.Nat.{ℕ, _*_, _<_, _≤_};
 ghost use Rattle.std.specs.Options.{Cases};
 ghost use Rattle.model.specs.State.{new};
 ghost use Rattle.holdings.specs.Rows.{size, in-rows, roll};
@@ -15,6 +15,7 @@ use super::words::unpacked;
 use holdings::Holdings;
 use holdings::HoldingsMut;
 use holdings::Rows;
+use holdings::filled_pairs;
 use model::Entity;
 use model::Refusal;
 use model::TicketSet;
@@ -51,6 +52,14 @@ impl<'r, 'c> CellTable<'r, 'c> {
         let column = self.rows.find(target)?;
         Some(row * self.rows.capacity() + column)
     }
+}
+
+// How many pairs so many entities make.
+fn pairs_of(count: usize) -> usize
+    requires { ⌜ count ≤ 512 ⌝ }
+    ensures { λ r. ⌜ r ≡ count * count ⌝ }
+{
+    count * count
 }
 
 // Clears every cell.
@@ -97,6 +106,16 @@ pub impl<'r, 'c> Holdings for CellTable<'r, 'c> as CellHoldings {
 
 pub impl<'r, 'c> HoldingsMut for CellTable<'r, 'c> as CellHoldingsMut {
     ghost room = { λ t. square (size (t .rows)) };
+
+    fn has_row(&mut self) -> Result<(), Refusal> {
+        self.rows.has_row()
+    }
+
+    // The pairs are counted only where those that stand might fill too many.
+    fn has_pairs(&mut self, more: usize) -> bool {
+        let pairs = pairs_of(self.rows.capacity());
+        more <= pairs - pairs_of(self.rows.standing()) || more <= pairs - filled_pairs(self)
+    }
 
     fn add(&mut self, kind: u8) -> Result<u32, Refusal> {
         self.rows.add(kind)

@@ -1,3 +1,4 @@
 pub mod Places
+mod Counting
 mod Searches
 mod Takes

@@ -6,13 +6,14 @@ use native.Mathlib.Numerals.{add-one}
 use native.Mathlib.Omega.{arith}
 use lib.ListN.{length, getD, set, take}
 use Rattle.std.proofs.shelf.Lists.{length-set, length-take-le, take-more-set}
-use Rattle.std.proofs.shelf.Tests.{cond-true, lt-ltb, le-leb}
+use Rattle.std.proofs.shelf.Tests.{cond-true, lt-ltb, le-leb, ltb-true, leb-true}
 use Rattle.model.specs.declared.tickets.Entity.{Entity}
 use Rattle.model.specs.Refusals.{granted}
 use Rattle.model.specs.Tickets.{none}
 use Rattle.model.specs.State.{State, added}
 use Rattle.model.specs.Laws.{Rising}
-use Rattle.model.specs.Calls.{add-answer}
+use Rattle.model.specs.Calls.{add-answer, passed, row-checks}
+use Rattle.model.proofs.Checks.{passed-all}
 use Rattle.holdings.specs.Rows.{Filed, row-room, remove-at}
 use Rattle.holdings.proofs.Places.{blank, rising-push, rising-remove}
 
@@ -63,6 +64,13 @@ module _ (rows : List Entity) (count next : ℕ) (filed : Filed rows count next)
         },
         is,
       )
+
+  -- there is a row and a number more
+  pub has-room : granted tt ≡ passed (row-checks (row-room (length rows)) record { next = next; entities = take count rows; tickets = λ h y. none })
+      → (count < length rows) × (next ≤ 999999)
+  has-room p =
+      let all = passed-all (row-checks (row-room (length rows)) record { next = next; entities = take count rows; tickets = λ h y. none }) (sym p) in
+      (omega (arith, ltb-true (length (take count rows)) (length rows) (all .0), length-take-le count rows (filed .fits)), leb-true next 999999 (all .1 .0))
 
   -- the rows after one entity more
   module _ (kind : ℕ) (room : count < length rows) (left : next ≤ 999999) where

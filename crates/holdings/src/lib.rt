@@ -1,19 +1,23 @@
 //! Holdings: who stands, and who holds which tickets. A trait to read them and one to change them; what every
 //! implementation of either has to mean and to keep true stands in its ghost members.
 ghost use mathlib.Core.Path.{_≡_};
+ghost use Prim.Native.Nat.{_+_};
+ghost use lib.Dec.{leb};
 ghost use lib.ListN.{length};
 ghost use Rattle.model.specs.Refusals.{told};
 ghost use Rattle.model.specs.Tickets.{tickets-of};
-ghost use Rattle.model.specs.State.{State, Room, kind-of, new, added, stored, removed};
-ghost use Rattle.model.specs.Calls.{add-answer, store-answer, after};
+ghost use Rattle.model.specs.State.{State, Room, kind-of, new, added, stored, removed, filled};
+ghost use Rattle.model.specs.Calls.{add-answer, store-answer, after, passed, row-checks};
 ghost use Rattle.model.specs.Laws.{Orderly};
 ghost use Rattle.std.specs.shelf.Maps.{nth};
 use model::Entity;
 use model::Refusal;
 use model::TicketSet;
 
+mod filling;
 mod rows;
 
+pub use filling::filled_pairs;
 pub use rows::Rows;
 
 /// Holdings that can be read. Every question takes the holdings for writing, so that an implementation may move
@@ -64,8 +68,20 @@ pub trait HoldingsMut: Holdings {
     /// How many rows and pairs there are.
     ghost room: { Self → Room };
 
-    /// Adds an entity, which takes the next number and moves it up by one. Refused where all rows are taken, and then
-    /// where the next number is above 999,999.
+    /// Whether there is a row and a number for one entity more. Refused where all rows are taken, and then where the
+    /// next number is above 999,999.
+    fn has_row(&mut self) -> Result<(), Refusal>
+        requires { ⌜ Self·Holdings .ok (now self) ⌝ }
+        ensures same { λ _. ⌜ now (self .exit) ≡ now (self .entry) ⌝ }
+        ensures answer { λ r. ⌜ told r ≡ passed (row-checks (room (now (self .entry))) (Self·Holdings .meaning (now (self .entry)))) ⌝ };
+
+    /// Whether so many pairs more can be filled.
+    fn has_pairs(&mut self, more: usize) -> bool
+        requires { ⌜ Self·Holdings .ok (now self) ⌝ }
+        ensures same { λ _. ⌜ now (self .exit) ≡ now (self .entry) ⌝ }
+        ensures answer { λ r. ⌜ r ≡ leb (filled (Self·Holdings .meaning (now (self .entry))) + more) (room (now (self .entry)) .pairs) ⌝ };
+
+    /// Adds an entity, which takes the next number and moves it up by one. Refused as `has_row` says.
     fn add(&mut self, kind: u8) -> Result<u32, Refusal>
         requires { ⌜ Self·Holdings .ok (now self) ⌝ }
         ensures ok { λ _. ⌜ Self·Holdings .ok (now (self .exit)) ⌝ }

@@ -5,7 +5,7 @@ ghost use Prim.Native.Nat.{suc, _<_, _≤_};
 ghost use lib.ListN.{length, take};
 ghost use Rattle.model.specs.Refusals.{told};
 ghost use Rattle.model.specs.State.{new, added};
-ghost use Rattle.model.specs.Calls.{add-answer, after};
+ghost use Rattle.model.specs.Calls.{add-answer, after, passed, row-checks};
 ghost use Rattle.std.specs.shelf.Maps.{nth};
 ghost use Rattle.holdings.specs.Rows.{In-order, roll, row-room, size, in-rows, place-of, remove-at};
 use model::Entity;
@@ -93,8 +93,22 @@ impl<'r> Rows<'r> {
         None
     }
 
-    /// Adds an entity, which takes the next number and moves it up by one. Refused where all rows are taken, and then
-    /// where the next number is above 999,999.
+    /// Whether there is a row and a number for one entity more. Refused where all rows are taken, and then where the
+    /// next number is above 999,999.
+    pub fn has_row(&self) -> Result<(), Refusal>
+        requires { ⌜ In-order (now self) ⌝ }
+        ensures { λ r. ⌜ told r ≡ passed (row-checks (row-room (size (now (self .entry)))) (roll (now (self .entry)))) ⌝ }
+    {
+        if self.count >= self.capacity() {
+            return Err(Refusal::RowsTaken);
+        }
+        if self.next > LAST_NUMBER {
+            return Err(Refusal::NumbersSpent);
+        }
+        Ok(())
+    }
+
+    /// Adds an entity, which takes the next number and moves it up by one. Refused as `has_row` says.
     pub fn add(&mut self, kind: u8) -> Result<u32, Refusal>
         requires { ⌜ In-order (now self) ⌝ }
         ensures order { λ _. ⌜ In-order (now (self .exit)) ⌝ }
@@ -102,14 +116,9 @@ impl<'r> Rows<'r> {
         ensures answer { λ r. ⌜ told r ≡ add-answer (row-room (size (now (self .entry)))) (roll (now (self .entry))) ⌝ }
         ensures state { λ r. ⌜ roll (now (self .exit)) ≡ after (told r) (added (roll (now (self .entry))) kind) (roll (now (self .entry))) ⌝ }
     {
+        self.has_row()?;
         let count = self.count;
-        if count >= self.capacity() {
-            return Err(Refusal::RowsTaken);
-        }
         let number = self.next;
-        if number > LAST_NUMBER {
-            return Err(Refusal::NumbersSpent);
-        }
         self.entities[count] = Entity { number, kind };
         self.count = count + 1;
         self.next = number + 1;

@@ -75,3 +75,10 @@ module _ {w : List ℕ} {t : TicketFor} (said : Says w t) where
 
   pub has-right : (x : RefT (List ℕ) × RefT (List ℕ)) → SplitAt 47 w (Some x) → (letter : List ℕ) (copy : Bool) → x .1 .now ≡ letter ++ flag copy → (copy ≡ false → (front : List ℕ) → x .1 .now ≡ front ++ flag true → ⊥) → None ≡ right-of letter → ⊥
   has-right x h letter copy whole cut e = apart (said .right) letter (t .ticket .copy) copy (slash (Some x) h .1) whole cut (said .right-is) e
+
+  pub has-plain-right : t .ticket .copy ≡ false → (x : RefT (List ℕ) × RefT (List ℕ)) → SplitAt 47 w (Some x) → None ≡ right-of (x .1 .now) → ⊥
+  has-plain-right plain x h e =
+      let same = ap right-of (slash (Some x) h .1 ∙ ap (λ copy. said .right ++ flag copy) plain ∙ append-nil (said .right)) in
+      let is = said .right-is in
+      let z : _≡_ {A = ℕ} 0 1 = cc in
+      omega arith

@@ -15,6 +15,10 @@ Starts (command.Cells n) = fit n (n * n) ≡ true
 Starts (command.Enter k) = ⊥
 Starts (command.Place a t) = ⊥
 Starts command.Open = Unit {0}
+Starts (command.Copy a b t) = ⊥
+Starts (command.Demand b t) = ⊥
+Starts (command.Drop a t) = ⊥
+Starts (command.Retire y) = ⊥
 Starts (command.Ask a t) = ⊥
 Starts command.Show = ⊥
 

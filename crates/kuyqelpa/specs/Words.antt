@@ -46,3 +46,7 @@ pub record Says (w : List ℕ) (t : TicketFor) : Type 0 where
   pub parts : w ≡ number ++ (codes "/" ++ (right ++ flag (t .ticket .copy)))
   pub target : number-of number ≡ Some (t .target)
   pub right-is : right-of right ≡ Some (t .ticket .right)
+
+-- a word says this ticket, and no copy flag
+abbrev pub SaysPlain : List ℕ → TicketFor → Type 0
+SaysPlain w t = Says w t × (t .ticket .copy ≡ false)

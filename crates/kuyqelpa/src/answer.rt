@@ -1,8 +1,9 @@
 //! The answers to commands: the line that other programs read, and the sentence for people.
 ghost use mathlib.Core.Path.{_≡_};
+ghost use lib.Chars.{codes};
 ghost use Rattle.std.specs.declared.option.Option.the-variants.{Some};
 ghost use Rattle.model.specs.Refusals.{told};
-ghost use Rattle.kuyqelpa.specs.Lines.{line, done-line, entered-line, ask-line};
+ghost use Rattle.kuyqelpa.specs.Lines.{line, done-line, number-line, ask-line};
 use super::command::Command;
 use super::names::KindName;
 use super::names::KindNameDisplay;
@@ -16,6 +17,11 @@ use std::fmt;
 pub enum Answer {
     Done,
     Entered { number: u32 },
+    /// A copy was granted by a link.
+    Linked { link: u8 },
+    Granted,
+    Dropped,
+    Retired,
     Yes,
     No,
     Refused(Refusal),
@@ -25,32 +31,41 @@ pub enum Answer {
     Error,
 }
 
-pub impl From<Result<(), Refusal>> for Answer as AnswerFromDone {
-    ghost converts = { λ r a. line a ≡ done-line (told r) };
-
-    fn from(result: Result<(), Refusal>) -> Answer {
+impl Answer {
+    /// The answer to a call that gives nothing back: this one where it is granted.
+    pub fn unless_refused(self, result: Result<(), Refusal>) -> Answer
+        ensures { λ r. ⌜ line r ≡ done-line (line self) (told result) ⌝ }
+    {
         match result {
-            Ok(()) => Answer::Done,
+            Ok(()) => self,
             Err(refusal) => Answer::Refused(refusal),
         }
     }
-}
 
-pub impl From<Result<u32, Refusal>> for Answer as AnswerFromNumber {
-    ghost converts = { λ r a. line a ≡ entered-line (told r) };
-
-    fn from(result: Result<u32, Refusal>) -> Answer {
+    /// The answer to an entry.
+    pub fn entered(result: Result<u32, Refusal>) -> Answer
+        ensures { λ r. ⌜ line r ≡ number-line (codes "entered ") (told result) ⌝ }
+    {
         match result {
             Ok(number) => Answer::Entered { number },
             Err(refusal) => Answer::Refused(refusal),
         }
     }
-}
 
-pub impl From<Result<bool, Refusal>> for Answer as AnswerFromBool {
-    ghost converts = { λ r a. line a ≡ ask-line (told r) };
+    /// The answer to a copy.
+    pub fn linked(result: Result<u8, Refusal>) -> Answer
+        ensures { λ r. ⌜ line r ≡ number-line (codes "granted link ") (told result) ⌝ }
+    {
+        match result {
+            Ok(link) => Answer::Linked { link },
+            Err(refusal) => Answer::Refused(refusal),
+        }
+    }
 
-    fn from(result: Result<bool, Refusal>) -> Answer {
+    /// The answer to a question.
+    pub fn asked(result: Result<bool, Refusal>) -> Answer
+        ensures { λ r. ⌜ line r ≡ ask-line (told result) ⌝ }
+    {
         match result {
             Ok(true) => Answer::Yes,
             Ok(false) => Answer::No,
@@ -67,6 +82,10 @@ pub impl fmt::Display for Answer as AnswerDisplay {
         match *self {
             Answer::Done => f.write_str("ok"),
             Answer::Entered { number } => write!(f, "entered {number}"),
+            Answer::Linked { link } => write!(f, "granted link {link}"),
+            Answer::Granted => f.write_str("granted"),
+            Answer::Dropped => f.write_str("dropped"),
+            Answer::Retired => f.write_str("retired"),
             Answer::Yes => f.write_str("yes"),
             Answer::No => f.write_str("no"),
             Answer::Refused(refusal) => {
@@ -125,6 +144,29 @@ fn granted<W: fmt::Write>(
         (Command::Open, _) => f.write_str(
             "The register is open. Nothing is entered or placed by hand any more.",
         ),
+        (
+            Command::Copy {
+                giver,
+                taker,
+                ticket,
+            },
+            Answer::Linked { link },
+        ) => write!(
+            f,
+            "Link {link} holds from entity {giver} to entity {taker} and passes this ticket. Entity {taker} now holds {ticket}."
+        ),
+        (Command::Demand { demander, ticket }, _) => write!(
+            f,
+            "The rules give this ticket to entity {demander} for the asking. It now holds {ticket}."
+        ),
+        (Command::Drop { holder, ticket }, _) => write!(
+            f,
+            "Entity {holder} no longer holds {ticket}."
+        ),
+        (Command::Retire { entity }, _) => write!(
+            f,
+            "Entity {entity} is gone, with all that it held and all tickets for it. Its number is never given again."
+        ),
         (Command::Ask { holder, ticket }, Answer::Yes) => write!(
             f,
             "Entity {holder} holds {ticket}."
@@ -134,7 +176,7 @@ fn granted<W: fmt::Write>(
             "Entity {holder} does not hold {ticket}."
         ),
         (Command::Show, _) => f.write_str(SHOWN),
-        (Command::Enter { .. }, _) => Ok(()),
+        (Command::Enter { .. } | Command::Copy { .. }, _) => Ok(()),
     }
 }
 

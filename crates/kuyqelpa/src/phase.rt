@@ -1,4 +1,5 @@
-//! What a script can do as it goes on: nothing but choose a scheme, begin a set-up, fill it, and ask the open register.
+//! What a script can do as it goes on: nothing but choose a scheme, begin a set-up, fill it, and call and ask the open
+//! register.
 ghost use mathlib.Core.Bool.{true};
 ghost use mathlib.Core.Path.{_≡_};
 ghost use mathlib.Core.List.{List};
@@ -12,11 +13,8 @@ ghost use Rattle.cells.specs.Layout.{fit-answer};
 ghost use Rattle.kuyqelpa.specs.declared.command.Command.{Command};
 ghost use Rattle.kuyqelpa.specs.declared.answer.Answer.the-variants.{Done};
 ghost use Rattle.kuyqelpa.specs.Going.{Starts, Follows};
-ghost use Rattle.kuyqelpa.specs.Lines.{line, beginning-line, chosen-line, set-up-line, set-up-step, open-line};
+ghost use Rattle.kuyqelpa.specs.Lines.{line, beginning-line, chosen-line, set-up-line, set-up-step, open-line, open-step};
 use super::answer::Answer;
-use super::answer::AnswerFromBool;
-use super::answer::AnswerFromDone;
-use super::answer::AnswerFromNumber;
 use super::command::Command;
 use super::listing::show;
 use super::row_count::RowCount;
@@ -93,10 +91,11 @@ pub impl<S: Scheme, H: HoldingsMut> Phase for SetUp<S, H> as SetUpPhase {
 
     fn answer<R: Print>(&mut self, rt: &R, command: Command) -> io::Result<Answer> {
         match command {
-            Command::Enter { kind } => Ok(self.enter(kind).into()),
-            Command::Place { holder, ticket } => Ok(
-                self.place(holder, ticket.target, ticket.ticket).into(),
-            ),
+            Command::Enter { kind } => Ok(Answer::entered(self.enter(kind))),
+            Command::Place { holder, ticket } => {
+                let result = self.place(holder, ticket.target, ticket.ticket);
+                Ok(Answer::Done.unless_refused(result))
+            }
             Command::Open => Ok(Answer::Done),
             Command::Show => show(rt, self),
             _ => Ok(start_over(command)),
@@ -107,15 +106,33 @@ pub impl<S: Scheme, H: HoldingsMut> Phase for SetUp<S, H> as SetUpPhase {
 pub impl<S: Scheme, H: HoldingsMut> Phase for Register<S, H> as RegisterPhase {
     ghost ok = { λ s. Kept (H·Holdings .ok (s .holdings)) (S·Scheme .meaning (s .scheme)) (H·Holdings .meaning (s .holdings)) };
 
-    ghost says = { λ s. open-line (S·Scheme .meaning (s .scheme)) (H·Holdings .meaning (s .holdings)) };
+    ghost says = { λ s. open-line (S·Scheme .meaning (s .scheme)) (H·HoldingsMut .room (s .holdings)) (H·Holdings .meaning (s .holdings)) };
 
-    ghost leaves = { λ s _ t. t ≡ s };
+    ghost leaves = { λ s c t. (H·Holdings .meaning (t .holdings) ≡ open-step (S·Scheme .meaning (s .scheme)) (H·HoldingsMut .room (s .holdings)) (H·Holdings .meaning (s .holdings)) c) × (t .scheme ≡ s .scheme) × (H·HoldingsMut .room (t .holdings) ≡ H·HoldingsMut .room (s .holdings)) };
 
     fn answer<R: Print>(&mut self, rt: &R, command: Command) -> io::Result<Answer> {
         match command {
-            Command::Ask { holder, ticket } => Ok(
-                self.question(holder, ticket.target, ticket.ticket).into(),
-            ),
+            Command::Copy {
+                giver,
+                taker,
+                ticket,
+            } => {
+                let result = self.copy(giver, taker, ticket.target, ticket.ticket);
+                Ok(Answer::linked(result))
+            }
+            Command::Demand { demander, ticket } => {
+                let result = self.demand(demander, ticket.target, ticket.ticket);
+                Ok(Answer::Granted.unless_refused(result))
+            }
+            Command::Drop { holder, ticket } => {
+                let result = self.drop_ticket(holder, ticket.target, ticket.ticket.right);
+                Ok(Answer::Dropped.unless_refused(result))
+            }
+            Command::Retire { entity } => Ok(Answer::Retired.unless_refused(self.retire(entity))),
+            Command::Ask { holder, ticket } => {
+                let result = self.question(holder, ticket.target, ticket.ticket);
+                Ok(Answer::asked(result))
+            }
             Command::Show => show(rt, self),
             _ => Ok(start_over(command)),
         }

@@ -4,7 +4,7 @@ ghost use mathlib.Core.List.{List, _++_};
 ghost use mathlib.Core.Path.{_≡_};
 ghost use Prim.Native.Nat.{ℕ};
 ghost use Rattle.kuyqelpa.specs.Numbers.{number-of};
-ghost use Rattle.kuyqelpa.specs.Words.{byte-of, kind-of, right-of, flag, Says};
+ghost use Rattle.kuyqelpa.specs.Words.{byte-of, kind-of, right-of, flag, Says, SaysPlain};
 ghost use Rattle.std.specs.Options.{Cases};
 use model::Ticket;
 
@@ -91,5 +91,18 @@ pub fn ticket(word: &str) -> Option<TicketFor>
     Some(TicketFor {
         target,
         ticket: Ticket { right, copy },
+    })
+}
+
+/// The ticket that a word says without the copy flag: `Y/x`.
+pub fn plain_ticket(word: &str) -> Option<TicketFor>
+    ensures { λ r. ⌜ Cases r ((t : TicketFor) → SaysPlain (now (word .entry)) t → ⊥) (λ t. SaysPlain (now (word .entry)) t) ⌝ }
+{
+    let (target, letter) = word.split_once('/')?;
+    let target = number(target)?;
+    let right = right(letter)?;
+    Some(TicketFor {
+        target,
+        ticket: Ticket { right, copy: false },
     })
 }

@@ -3,6 +3,8 @@ pub mod Masks
 pub mod Entities
 pub mod Checks
 pub mod Tables
+pub mod Filling
+pub mod Gains
 pub mod Soundness
 pub mod Lowest
 pub mod RuleNumbers

@@ -107,3 +107,10 @@ filled st = count-pairs (st .tickets) (st .entities) (st .entities)
 -- there is a pair left to store s in: it is turned down exactly where the pair is empty, s is not, and all pairs are filled
 abbrev pub stores : Room → State → ℕ → ℕ → Tickets → Bool
 stores R st h y s = not (empty (st .tickets h y) && not (empty s) && leb (R .pairs) (filled st))
+
+-- how many pairs a set takes in a place of its own, and beside what is there: one where that is empty and the set is not
+abbrev pub takes : Tickets → ℕ
+takes s = cond (empty s) 0 1
+
+abbrev pub takes-beside : Tickets → Tickets → ℕ
+takes-beside v s = cond (empty v) (takes s) 0

@@ -2,4 +2,7 @@ mod Entries
 mod Fronts
 mod Linking
 mod CopyChecks
+mod RuleSearch
+mod Shares
+mod Creations
 mod Played

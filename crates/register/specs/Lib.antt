@@ -1,2 +1,3 @@
 pub mod Passing
 pub mod Examples
+pub mod Births

@@ -1,11 +1,13 @@
 //! The open register.
 ghost use mathlib.Core.Path.{_≡_};
 ghost use Rattle.model.specs.Refusals.{told, bare};
-ghost use Rattle.model.specs.Calls.{question-answer, answer, step, copy as copying, demand as demanding, drop as dropping, retire as retiring};
+ghost use Rattle.model.specs.Calls.{question-answer, answer, step, copy as copying, create as creating, demand as demanding, drop as dropping, retire as retiring};
 ghost use Rattle.model.specs.Grants.{Copied, Demanded};
 ghost use Rattle.model.specs.Laws.{Kept};
 use super::asking;
+use super::births::give_birth;
 use super::copies;
+use super::creating::check_creation;
 use super::gains;
 use super::takes;
 use holdings::Holdings;
@@ -75,6 +77,24 @@ impl<S: Scheme, H: HoldingsMut> Register<S, H> {
         ensures model { λ r. ⌜ Demanded (S·Scheme .meaning (now (self .entry) .scheme)) (H·HoldingsMut .room (now (self .entry) .holdings)) (H·Holdings .meaning (now (self .entry) .holdings)) demander target (ticket .right) (ticket .copy) (told r) (H·Holdings .meaning (now (self .exit) .holdings)) ⌝ }
     {
         gains::demand(&self.scheme, &mut self.holdings, demander, target, ticket)
+    }
+
+    /// Creates a child of a type by one parent, or by two in order, and answers its number. Both parents may be one subject.
+    /// Refused where a parent does not stand, where one is no subject, where the scheme has no such type, where it has no
+    /// rule for these parents and this type, where all rows are taken, where all numbers have been given, and where there
+    /// is no room for the pairs.
+    pub fn create(&mut self, parent: u32, second: Option<u32>, kind: u8) -> Result<u32, Refusal>
+        requires { ⌜ Kept (H·Holdings .ok (now self .holdings)) (S·Scheme .meaning (now self .scheme)) (H·Holdings .meaning (now self .holdings)) ⌝ }
+        ensures kept { λ _. ⌜ Kept (H·Holdings .ok (now (self .exit) .holdings)) (S·Scheme .meaning (now (self .exit) .scheme)) (H·Holdings .meaning (now (self .exit) .holdings)) ⌝ }
+        ensures scheme { λ _. ⌜ now (self .exit) .scheme ≡ now (self .entry) .scheme ⌝ }
+        ensures room { λ _. ⌜ H·HoldingsMut .room (now (self .exit) .holdings) ≡ H·HoldingsMut .room (now (self .entry) .holdings) ⌝ }
+        ensures answer { λ r. ⌜ told r ≡ answer (S·Scheme .meaning (now (self .entry) .scheme)) (H·HoldingsMut .room (now (self .entry) .holdings)) (H·Holdings .meaning (now (self .entry) .holdings)) (creating parent second kind) ⌝ }
+        ensures state { λ _. ⌜ H·Holdings .meaning (now (self .exit) .holdings) ≡ step (S·Scheme .meaning (now (self .entry) .scheme)) (H·HoldingsMut .room (now (self .entry) .holdings)) (H·Holdings .meaning (now (self .entry) .holdings)) (creating parent second kind) ⌝ }
+    {
+        let birth = check_creation(&self.scheme, &mut self.holdings, parent, second, kind)?;
+        let child = self.holdings.add(birth.child)?;
+        give_birth(&mut self.holdings, birth, child);
+        Ok(child)
     }
 
     /// Takes a right for the target from the holder, plain and copyable. Refused where holder or target does not stand,
