@@ -2,7 +2,7 @@
 ghost use mathlib.Core.Path.{_≡_};
 ghost use Rattle.model.specs.Refusals.{told, bare};
 ghost use Rattle.model.specs.Calls.{question-answer, answer, step, copy as copying, create as creating, demand as demanding, drop as dropping, retire as retiring};
-ghost use Rattle.model.specs.Grants.{Copied, Demanded};
+ghost use Rattle.model.specs.Grants.{Copied, Demanded, Created};
 ghost use Rattle.model.specs.Laws.{Kept};
 use super::asking;
 use super::births::give_birth;
@@ -90,6 +90,7 @@ impl<S: Scheme, H: HoldingsMut> Register<S, H> {
         ensures room { λ _. ⌜ H·HoldingsMut .room (now (self .exit) .holdings) ≡ H·HoldingsMut .room (now (self .entry) .holdings) ⌝ }
         ensures answer { λ r. ⌜ told r ≡ answer (S·Scheme .meaning (now (self .entry) .scheme)) (H·HoldingsMut .room (now (self .entry) .holdings)) (H·Holdings .meaning (now (self .entry) .holdings)) (creating parent second kind) ⌝ }
         ensures state { λ _. ⌜ H·Holdings .meaning (now (self .exit) .holdings) ≡ step (S·Scheme .meaning (now (self .entry) .scheme)) (H·HoldingsMut .room (now (self .entry) .holdings)) (H·Holdings .meaning (now (self .entry) .holdings)) (creating parent second kind) ⌝ }
+        ensures model { λ r. ⌜ Created (S·Scheme .meaning (now (self .entry) .scheme)) (H·HoldingsMut .room (now (self .entry) .holdings)) (H·Holdings .meaning (now (self .entry) .holdings)) parent second kind (told r) (H·Holdings .meaning (now (self .exit) .holdings)) ⌝ }
     {
         let birth = check_creation(&self.scheme, &mut self.holdings, parent, second, kind)?;
         let child = self.holdings.add(birth.child)?;

@@ -6,6 +6,7 @@ use Rattle.std.proofs.shelf.Results.{err-from-errBy}
 use Rattle.model.specs.Refusals.{Answer, told, granted, refused, refusal-number}
 use Rattle.model.specs.State.{Room, added, holding, filled}
 use Rattle.model.specs.Calls.{after, add-answer, child-state, checks, create as creation}
+use Rattle.model.proofs.Grants.{created}
 use Rattle.register.specs.Births.{birth-table}
 use Rattle.register.proofs.Fronts.{call-kept, front-refused, front-unchanged}
 use Rattle.register.proofs.Creations.{add-granted, create-granted, first-there, second-there, child-there, birth-fits, birth-state}
@@ -29,12 +30,14 @@ returns-in-Break-birth g c =
     let n = refusal-number (c .in-Break-birth .field-0 .0) in
     let out = err-from-errBy (c .from-residual .result) (c .from-residual .ensures .1) in
     let state = ap (g .H·Holdings .meaning) same ∙ front-unchanged front [] (st .next) n no (child-state S st a b k) st in
+    let answer = ap told (out .1) ∙ ap (λ e. refused (refusal-number e)) (out .2) ∙ front-refused front [] (st .next) n no in
     record {
       kept = call-kept S R st _ (subst (g .H·Holdings .ok) (sym same) (c .pre .holdings)) w (c .pre .sound) (creation a b k) _ state;
       scheme = refl;
       room = ap (g .H·HoldingsMut .room) same;
-      answer = ap told (out .1) ∙ ap (λ e. refused (refusal-number e)) (out .2) ∙ front-refused front [] (st .next) n no;
+      answer = answer;
       state = state;
+      model = created S w R st a b k (told (c .from-residual .result)) _ answer state;
     }
 
 inside-granted : (i j : ℕ) → _≡_ {A = Answer ℕ} (granted i) (granted j) → i ≡ j
@@ -110,10 +113,12 @@ returns g c =
     let e = c .give-birth .ensures in
     let next : n ≡ st .next = inside-granted n (st .next) (sym (ap told (c .in-Continue-child .was tt)) ∙ add-answers g d) in
     let state = e .state ∙ birth-state S R st o a b k v (made .answer) (made .birth .0) (made .birth .1) m (add-leaves g d) n next in
+    let answer = ap granted next ∙ create-granted S R st o a b k v (made .answer) (made .birth .0) (made .birth .1) in
     record {
       kept = call-kept S R st _ (e .ok) w (c .pre .sound) (creation a b k) _ state;
       scheme = refl;
       room = e .room ∙ c .add .ensures .room ∙ ap (g .H·HoldingsMut .room) (made .same);
-      answer = ap granted next ∙ create-granted S R st o a b k v (made .answer) (made .birth .0) (made .birth .1);
+      answer = answer;
       state = state;
+      model = created S w R st a b k (granted n) _ answer state;
     }
