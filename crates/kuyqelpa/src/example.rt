@@ -17,8 +17,10 @@ Three rights make the links:
 A register is set up by hand first, which means that entities are entered, and then opened. From there on, all goes by
 the rules. A call that they forbid is refused, with a number that always stands for the same reason.
 
-Here is one register from beginning to end. Ana has a hunter, which is a horse, and the hunter has a card. Ana shares
-the card with Ben, by way of a yard and a folder. Then the hunter is sold, and a pony has a card of its own.
+Here is one register from beginning to end. Ana has a hunter, which is a horse, and the hunter has a card. Ana puts the
+card into a folder, and passes the folder on to Ben through a yard. Then the hunter is sold, and a pony has a card of
+its own.
+
 Each answer stands at the left. Below it stand the command, with a remark that says who or what is meant, and what the
 answer tells.
 ";
