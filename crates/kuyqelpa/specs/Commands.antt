@@ -3,11 +3,11 @@ use mathlib.Core.List.{List}
 use mathlib.Core.Path.{_≡_}
 use Prim.Native.Nat.{ℕ}
 use lib.Chars.{codes}
-use Rattle.std.specs.Options.{Cases}
+use Rattle.std.specs.Options.{Cases, mapped}
 use Rattle.std.specs.declared.option.Option.{Option}
 use Rattle.std.specs.declared.option.Option.the-variants.{Some, None}
 use Rattle.kuyqelpa.specs.declared.command.Command.{Command}
-use Rattle.kuyqelpa.specs.declared.command.Command.the-variants.{Scheme, Cells, Enter, Place, Open, Copy, Demand, Drop, Retire, Ask, Show}
+use Rattle.kuyqelpa.specs.declared.command.Command.the-variants.{Scheme, Cells, Enter, Place, Open, Copy, Demand, Create, Drop, Retire, Ask, Show}
 use Rattle.kuyqelpa.specs.Numbers.{number-of}
 use Rattle.kuyqelpa.specs.Words.{kind-of, Says, SaysPlain}
 
@@ -24,6 +24,7 @@ Means name first second third (Place a t) = (name ≡ codes "place") × Is first
 Means name first second third Open = (name ≡ codes "open") × (first ≡ None) × (second ≡ None) × (third ≡ None)
 Means name first second third (Copy a b t) = (name ≡ codes "copy") × Is first (λ w. number-of w ≡ Some a) × Is second (λ w. number-of w ≡ Some b) × Is third (λ w. Says w t)
 Means name first second third (Demand b t) = (name ≡ codes "demand") × Is first (λ w. number-of w ≡ Some b) × Is second (λ w. Says w t) × (third ≡ None)
+Means name first second third (Create k a b) = (name ≡ codes "create") × Is first (λ w. kind-of w ≡ Some k) × Is second (λ w. number-of w ≡ Some a) × (mapped number-of third ≡ mapped Some b)
 Means name first second third (Drop a t) = (name ≡ codes "drop") × Is first (λ w. number-of w ≡ Some a) × Is second (λ w. SaysPlain w t) × (third ≡ None)
 Means name first second third (Retire y) = (name ≡ codes "retire") × Is first (λ w. number-of w ≡ Some y) × (second ≡ None) × (third ≡ None)
 Means name first second third (Ask a t) = (name ≡ codes "ask") × Is first (λ w. number-of w ≡ Some a) × Is second (λ w. Says w t) × (third ≡ None)

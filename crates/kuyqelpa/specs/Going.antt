@@ -17,6 +17,7 @@ Starts (command.Place a t) = ⊥
 Starts command.Open = Unit {0}
 Starts (command.Copy a b t) = ⊥
 Starts (command.Demand b t) = ⊥
+Starts (command.Create k a b) = ⊥
 Starts (command.Drop a t) = ⊥
 Starts (command.Retire y) = ⊥
 Starts (command.Ask a t) = ⊥

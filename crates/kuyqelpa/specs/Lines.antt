@@ -7,11 +7,11 @@ use Rattle.std.specs.Written.{decimal}
 use Rattle.model.specs.Refusals.{Answer as Told, granted, refused, bare, refusal-number}
 use Rattle.model.specs.Scheme.{Scheme}
 use Rattle.model.specs.State.{State, Room}
-use Rattle.model.specs.Calls.{question-answer, answer, step, copy, demand, drop, retire}
+use Rattle.model.specs.Calls.{question-answer, answer, step, copy, demand, create, drop, retire}
 use Rattle.model.specs.SetUp.{enter, place, entry-answer, entry-step}
 use Rattle.cells.specs.Layout.{fit-answer}
 use Rattle.kuyqelpa.specs.declared.answer.Answer.{Answer}
-use Rattle.kuyqelpa.specs.declared.answer.Answer.the-variants.{Done, Entered, Linked, Granted, Dropped, Retired, Yes, No, Refused, End, Error}
+use Rattle.kuyqelpa.specs.declared.answer.Answer.the-variants.{Done, Entered, Linked, Granted, Created, Dropped, Retired, Yes, No, Refused, End, Error}
 use Rattle.kuyqelpa.specs.declared.command.Command.{Command}
 use Rattle.kuyqelpa.specs.declared.command.Command.the-variants as command
 
@@ -21,6 +21,7 @@ line Done = codes "ok"
 line (Entered n) = codes "entered " ++ decimal n
 line (Linked i) = codes "granted link " ++ decimal i
 line Granted = codes "granted"
+line (Created n) = codes "created " ++ decimal n
 line Dropped = codes "dropped"
 line Retired = codes "retired"
 line Yes = codes "yes"
@@ -53,6 +54,7 @@ chosen-line (command.Place a t) = codes "error"
 chosen-line command.Open = codes "error"
 chosen-line (command.Copy a b t) = codes "error"
 chosen-line (command.Demand b t) = codes "error"
+chosen-line (command.Create k a b) = codes "error"
 chosen-line (command.Drop a t) = codes "error"
 chosen-line (command.Retire y) = codes "error"
 chosen-line (command.Ask a t) = codes "error"
@@ -67,6 +69,7 @@ beginning-line (command.Place a t) = codes "error"
 beginning-line command.Open = codes "error"
 beginning-line (command.Copy a b t) = codes "error"
 beginning-line (command.Demand b t) = codes "error"
+beginning-line (command.Create k a b) = codes "error"
 beginning-line (command.Drop a t) = codes "error"
 beginning-line (command.Retire y) = codes "error"
 beginning-line (command.Ask a t) = codes "error"
@@ -82,6 +85,7 @@ module _ (S : Scheme) (R : Room) (st : State) where
   set-up-line command.Open = codes "ok"
   set-up-line (command.Copy a b t) = codes "error"
   set-up-line (command.Demand b t) = codes "error"
+  set-up-line (command.Create k a b) = codes "error"
   set-up-line (command.Drop a t) = codes "error"
   set-up-line (command.Retire y) = codes "error"
   set-up-line (command.Ask a t) = codes "error"
@@ -95,6 +99,7 @@ module _ (S : Scheme) (R : Room) (st : State) where
   set-up-step command.Open = st
   set-up-step (command.Copy a b t) = st
   set-up-step (command.Demand b t) = st
+  set-up-step (command.Create k a b) = st
   set-up-step (command.Drop a t) = st
   set-up-step (command.Retire y) = st
   set-up-step (command.Ask a t) = st
@@ -109,6 +114,7 @@ module _ (S : Scheme) (R : Room) (st : State) where
   open-line command.Open = codes "error"
   open-line (command.Copy a b t) = number-line (codes "granted link ") (answer S R st (copy a b (t .target) (t .ticket .right) (t .ticket .copy)))
   open-line (command.Demand b t) = done-line (codes "granted") (bare (answer S R st (demand b (t .target) (t .ticket .right) (t .ticket .copy))))
+  open-line (command.Create k a b) = number-line (codes "created ") (answer S R st (create a b k))
   open-line (command.Drop a t) = done-line (codes "dropped") (bare (answer S R st (drop a (t .target) (t .ticket .right))))
   open-line (command.Retire y) = done-line (codes "retired") (bare (answer S R st (retire y)))
   open-line (command.Ask a t) = ask-line (question-answer S st a (t .target) (t .ticket .right) (t .ticket .copy))
@@ -122,6 +128,7 @@ module _ (S : Scheme) (R : Room) (st : State) where
   open-step command.Open = st
   open-step (command.Copy a b t) = step S R st (copy a b (t .target) (t .ticket .right) (t .ticket .copy))
   open-step (command.Demand b t) = step S R st (demand b (t .target) (t .ticket .right) (t .ticket .copy))
+  open-step (command.Create k a b) = step S R st (create a b k)
   open-step (command.Drop a t) = step S R st (drop a (t .target) (t .ticket .right))
   open-step (command.Retire y) = step S R st (retire y)
   open-step (command.Ask a t) = st

@@ -20,6 +20,7 @@ pub enum Answer {
     /// A copy was granted by a link.
     Linked { link: u8 },
     Granted,
+    Created { number: u32 },
     Dropped,
     Retired,
     Yes,
@@ -62,6 +63,16 @@ impl Answer {
         }
     }
 
+    /// The answer to a creation.
+    pub fn created(result: Result<u32, Refusal>) -> Answer
+        ensures { λ r. ⌜ line r ≡ number-line (codes "created ") (told result) ⌝ }
+    {
+        match result {
+            Ok(number) => Answer::Created { number },
+            Err(refusal) => Answer::Refused(refusal),
+        }
+    }
+
     /// The answer to a question.
     pub fn asked(result: Result<bool, Refusal>) -> Answer
         ensures { λ r. ⌜ line r ≡ ask-line (told result) ⌝ }
@@ -84,6 +95,7 @@ pub impl fmt::Display for Answer as AnswerDisplay {
             Answer::Entered { number } => write!(f, "entered {number}"),
             Answer::Linked { link } => write!(f, "granted link {link}"),
             Answer::Granted => f.write_str("granted"),
+            Answer::Created { number } => write!(f, "created {number}"),
             Answer::Dropped => f.write_str("dropped"),
             Answer::Retired => f.write_str("retired"),
             Answer::Yes => f.write_str("yes"),
@@ -159,6 +171,13 @@ fn granted<W: fmt::Write>(
             f,
             "The rules give this ticket to entity {demander} for the asking. It now holds {ticket}."
         ),
+        (Command::Create { kind, .. }, Answer::Created { number }) => {
+            let name = KindName(kind);
+            write!(
+                f,
+                "Entity {number} has been created, with the tickets that the rules give. Its type is {name}."
+            )
+        }
         (Command::Drop { holder, ticket }, _) => write!(
             f,
             "Entity {holder} no longer holds {ticket}."
@@ -176,7 +195,7 @@ fn granted<W: fmt::Write>(
             "Entity {holder} does not hold {ticket}."
         ),
         (Command::Show, _) => f.write_str(SHOWN),
-        (Command::Enter { .. } | Command::Copy { .. }, _) => Ok(()),
+        (Command::Enter { .. } | Command::Copy { .. } | Command::Create { .. }, _) => Ok(()),
     }
 }
 

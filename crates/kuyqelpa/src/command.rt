@@ -41,6 +41,12 @@ pub enum Command {
         demander: u32,
         ticket: TicketFor,
     },
+    /// `create TYPE P1 [P2]`: creates an entity, with one parent or two.
+    Create {
+        kind: u8,
+        parent: u32,
+        second: Option<u32>,
+    },
     /// `drop A Y/x`: takes a right for entity Y from entity A, with its copy flag.
     Drop {
         holder: u32,
@@ -94,6 +100,11 @@ fn short_command(name: &str, first: Option<&str>, second: Option<&str>) -> Optio
             demander: number(demander)?,
             ticket: ticket(word)?,
         }),
+        ("create", Some(word), Some(parent)) => Some(Command::Create {
+            kind: kind(word)?,
+            parent: number(parent)?,
+            second: None,
+        }),
         ("drop", Some(holder), Some(word)) => Some(Command::Drop {
             holder: number(holder)?,
             ticket: plain_ticket(word)?,
@@ -119,6 +130,11 @@ fn long_command(name: &str, first: &str, second: &str, third: &str) -> Option<Co
             giver: number(first)?,
             taker: number(second)?,
             ticket: ticket(third)?,
+        }),
+        "create" => Some(Command::Create {
+            kind: kind(first)?,
+            parent: number(second)?,
+            second: Some(number(third)?),
         }),
         _ => None,
     }

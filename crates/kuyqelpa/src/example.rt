@@ -14,12 +14,13 @@ Three rights make the links:
   g (grant)  Whoever may grant to an entity can give tickets to it. That is link 0 too.
   o (own)    An owner and what it owns can give tickets to each other. That is link 1.
 
-A register is set up by hand first, which means that entities are entered and tickets placed, and then opened. From
-there on, all goes by the rules. A call that they forbid is refused, with a number that always stands for the same
-reason.
+A register is set up by hand first, which means that entities are entered, and then opened. From there on, all goes by
+the rules. A call that they forbid is refused, with a number that always stands for the same reason.
 
-Here is one register from beginning to end. Ana has a hunter, which is a horse, and the hunter has a card. Ana shares
-the card with Ben, by way of a yard and a folder. Then the hunter is sold, and a pony has a card of its own.
+Here is one register from beginning to end. Ana has a hunter, which is a horse, and the hunter has a card. Ana puts the
+card into a folder, and passes the folder on to Ben through a yard. Then the hunter is sold, and a pony has a card of
+its own.
+
 Each answer stands at the left. Below it stand the command, with a remark that says who or what is meant, and what the
 answer tells.
 ";
@@ -30,18 +31,10 @@ scheme card      # the rules for people and their cards
 cells 8          # room for at most 8 entities
 enter person     # Ana
 enter person     # Ben
-enter yard       # a yard for Ana
-enter folder     # a folder for Ana
-enter card       # the hunter's card
-enter card       # the pony's card, for later
-place 1 3/o      # Ana owns the yard
-place 3 1/t      # the yard may take from Ana
-place 1 4/o      # Ana owns the folder
-place 1 4/tc     # Ana may take from the folder, and may pass that on
-place 1 5/rc     # Ana may read the hunter's card, and may pass that on
-place 1 5/wc     # Ana may write on the hunter's card, and may pass that on
-place 2 6/rc     # Ben may read the pony's card, and may pass that on
 open
+create yard 1    # Ana makes a yard. She owns it, and it may take from her and grant to her
+create folder 1  # Ana makes a folder. She owns it, may take from it, and may pass that on
+create card 1    # Ana makes the hunter's card. She may read it and write on it, and may pass both on
 copy 1 4 5/rc    # Ana puts the card into the folder, and the folder may pass it on
 copy 1 3 4/tc    # Ana brings the folder to the yard, and the yard may pass it on
 demand 1 2/gc    # Ana asks for the right to grant to Ben
@@ -52,7 +45,8 @@ ask 2 5/r        # may Ben read the card?
 ask 2 5/w        # may Ben write on it?
 retire 5         # the hunter is sold, and its card goes
 ask 2 5/r        # may Ben still read card 5? There is none
-ask 2 6/r        # may Ben read the pony's card, 6?
+create card 2    # Ben makes a card for a pony. It does not get the old number 5
+ask 2 6/r        # may Ben read the pony's card?
 ask 1 6/r        # may Ana read it?
 copy 2 4 6/rc    # may Ben put it into Ana's folder?
 ";

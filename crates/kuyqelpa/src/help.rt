@@ -20,6 +20,7 @@ In a set-up:
 Once the register is open:
   copy A B TICKET    copies a ticket from entity A to entity B: granted link NUMBER, or refused
   demand A TICKET    gives entity A a ticket that it may have for the asking: granted, or refused
+  create TYPE A [B]  creates an entity by entity A, or by entities A and B together: created NUMBER, or refused
   drop A TICKET      takes a ticket, written without the copy flag, from entity A: dropped, or refused
   retire A           takes entity A out, with all that it holds and all tickets for it: retired, or refused
   ask A TICKET       whether entity A has a ticket: yes, no, or refused
@@ -50,7 +51,7 @@ answers ok, ok, entered 1, entered 2, entered 3, ok, ok, ok, granted link 1, yes
 
 A refused command changes nothing. Its number says why:";
 
-const REFUSALS: [Refusal; 13] = [
+const REFUSALS: [Refusal; 14] = [
     Refusal::NotStanding,
     Refusal::NotSubject,
     Refusal::UnknownRight,
@@ -58,6 +59,7 @@ const REFUSALS: [Refusal; 13] = [
     Refusal::NoLink,
     Refusal::NotPassed,
     Refusal::NotDemandable,
+    Refusal::NoRule,
     Refusal::RowsTaken,
     Refusal::NumbersSpent,
     Refusal::PairsTaken,

@@ -124,6 +124,14 @@ pub impl<S: Scheme, H: HoldingsMut> Phase for Register<S, H> as RegisterPhase {
                 let result = self.demand(demander, ticket.target, ticket.ticket);
                 Ok(Answer::Granted.unless_refused(result))
             }
+            Command::Create {
+                kind,
+                parent,
+                second,
+            } => {
+                let result = self.create(parent, second, kind);
+                Ok(Answer::created(result))
+            }
             Command::Drop { holder, ticket } => {
                 let result = self.drop_ticket(holder, ticket.target, ticket.ticket.right);
                 Ok(Answer::Dropped.unless_refused(result))
