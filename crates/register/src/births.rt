@@ -7,6 +7,7 @@ ghost use Rattle.model.specs.Tickets.{tickets-of};
 ghost use Rattle.model.specs.Scheme.{part-of, rule-of};
 ghost use Rattle.model.specs.State.{standing, gain, holding, filled, takes-beside};
 ghost use Rattle.register.specs.Births.{join-parts, give-share, birth-table, brought, share-pairs, By-rule, Parents-stand};
+use super::gains::gain_set;
 use holdings::Holdings;
 use holdings::HoldingsMut;
 use model::Part;
@@ -121,8 +122,7 @@ fn give<H: HoldingsMut>(holdings: &mut H, holder: u32, target: u32, set: TicketS
     ensures room { λ _. ⌜ H·HoldingsMut .room (now (holdings .exit)) ≡ H·HoldingsMut .room (now (holdings .entry)) ⌝ }
     ensures state { λ _. ⌜ H·Holdings .meaning (now (holdings .exit)) ≡ holding (H·Holdings .meaning (now (holdings .entry))) (gain (H·Holdings .meaning (now (holdings .entry)) .tickets) holder target (tickets-of set)) ⌝ }
 {
-    let held = holdings.tickets(holder, target);
-    let _ = holdings.store(holder, target, held.join(set));
+    let _ = gain_set(holdings, holder, target, set);
 }
 
 // Gives parent and child what the parent's share has for them. There are pairs for it.
