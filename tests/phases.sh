@@ -21,6 +21,7 @@ refused() {
     fi
 }
 
+refused "no entering where an open register retires" 'self\.retire(entity)' 'self.enter(0)' enter
 refused "no placing where an open register demands" 'self\.demand(demander,' 'self.place(demander,' place
 refused "no placing where an open register copies" 'self\.copy(giver, taker, ticket' 'self.place(taker, ticket' place
 refused "no copying where a set-up places" 'self\.place(holder,' 'self.copy(holder, holder,' copy
