@@ -1,4 +1,6 @@
 //! Holdings in lent memory with a word for every pair: room for every entity to hold tickets for every other.
+#![tactic(auto)]
+
 ghost use Rattle.std.specs.Prelude.{◌≡◌};
 ghost use Rattle.model.specs.Refusals.{told};
 ghost use Rattle.cells.specs.Layout.{fit_answer};

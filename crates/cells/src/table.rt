@@ -81,7 +81,9 @@ impl<'r, 'c> Holdings for CellTable<'r, 'c> {
     }
 
     fn find(&mut self, number: u32) -> Option<u8> {
-        self.rows.kind_of(number)
+        let place = self.rows.find(number)?;
+        let entity = self.rows.entity(place)?;
+        Some(entity.kind)
     }
 
     fn tickets(&mut self, holder: u32, target: u32) -> TicketSet {

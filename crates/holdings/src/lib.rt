@@ -1,5 +1,7 @@
 //! Holdings: who stands, and who holds which tickets. A trait to read them and one to change them; what every
 //! implementation of either has to mean and to keep true stands in its ghost members.
+#![tactic(auto)]
+
 ghost use Rattle.std.specs.Prelude.{◌≡◌, ◌+◌, length, nat_le};
 ghost use Rattle.model.specs.Refusals.{told};
 ghost use Rattle.model.specs.Tickets.{tickets_of};

@@ -1,2 +1,5 @@
+pub mod Numbers
+pub mod Words
 pub mod Lines
 pub mod Going
+pub mod Commands

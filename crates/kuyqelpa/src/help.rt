@@ -12,7 +12,6 @@ kuyqelpa --help        prints this text
 A script has a command on each line. # starts a comment, and blank lines are passed over.
   scheme card        chooses the card scheme: ok
   cells N            begins a set_up with N rows, from 1 to 512, an entity in each: ok, or refused 17
-  list N P           the same, with places for P pairs of a holder and a target, at most 65,535: ok, or refused 17
 In a set_up:
   enter TYPE         enters an entity: entered NUMBER, or refused
   place A TICKET     gives entity A a ticket: ok, or refused

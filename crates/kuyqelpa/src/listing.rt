@@ -1,10 +1,10 @@
 //! Everything that holdings have, line by line.
 ghost use Rattle.std.specs.Prelude.{◌≡◌, IfOk};
-ghost use Rattle.protocol.specs.declared.answer.Answer.TheVariants.{End};
+ghost use Rattle.kuyqelpa.specs.declared.answer.Answer.TheVariants.{End};
 
+use super::answer::Answer;
 use holdings::Holdings;
 use model::Entity;
-use protocol::Answer;
 use std::io;
 
 /// Prints the next number, the entities and the tickets. The answer is the last line.

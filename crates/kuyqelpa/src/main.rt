@@ -1,49 +1,37 @@
 //! The register for people and other programs: it runs scripts of commands and prints an answer to each.
-mod checked;
+#![tactic(auto)]
+
+mod answer;
+mod command;
 mod example;
 mod help;
 mod listing;
-mod loading;
+mod names;
 mod phase;
+mod row_count;
 mod run;
-mod sizes;
-mod start;
+mod script;
+mod words;
 
 use anyhow::anyhow;
 use help::help;
-use model::{Entity, TicketSet};
-use ordered::Entry;
-use run::{CELLS, PAIRS, ROWS, Teller, run};
+use model::Entity;
+use run::{CELLS, ROWS, Teller, run};
 use std::alloc::Global;
 use std::io::Read;
 use std::{env, fs};
-use ticket_list::Pair;
 
 // Lends the memory and runs a script.
-fn run_script(rt: &HostRuntime, heap: Global, text: &str, notes: bool) -> anyhow::Result<()> {
+fn run_script<R: Print>(rt: &R, heap: Global, text: &str, notes: bool) -> anyhow::Result<()> {
     let mut entities = vec![in heap; Entity { number: 0, kind: 0 }; ROWS]?;
     let mut cells = vec![in heap; 0; CELLS]?;
-    let unused = Entry {
-        key: Pair {
-            holder: 0,
-            target: 0,
-        },
-        value: TicketSet::none(),
-    };
-    let mut pairs = vec![in heap; unused; PAIRS]?;
     let teller = Teller { rt, notes };
-    run(
-        &teller,
-        text,
-        entities.as_mut_slice(),
-        cells.as_mut_slice(),
-        pairs.as_mut_slice(),
-    )?;
+    run(&teller, text, entities.as_mut_slice(), cells.as_mut_slice())?;
     Ok(())
 }
 
 // The example: its script, with notes, between two texts.
-fn tell_example(rt: &HostRuntime, heap: Global) -> anyhow::Result<()> {
+fn tell_example<R: Print>(rt: &R, heap: Global) -> anyhow::Result<()> {
     rt.println(example::OPENING)?;
     run_script(rt, heap, example::SCRIPT, true)?;
     rt.println(example::CLOSING)?;

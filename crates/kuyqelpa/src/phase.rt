@@ -1,13 +1,21 @@
-//! What a script can do as it goes on: nothing but start over, fill a set-up, and call and ask the open register.
-ghost use Rattle.std.specs.Prelude.{◌≡◌, ℕ, List, IfOk, codes};
+//! What a script can do as it goes on: nothing but choose a scheme, begin a set-up, fill it, and call and ask the open
+//! register.
+ghost use Rattle.std.specs.Prelude.{◌≡◌, ℕ, ◌*◌, true, List, IfOk, MatchOption, MatchResult};
 ghost use Rattle.model.specs.Laws.{Kept};
-ghost use Rattle.protocol.specs.declared.command.Command.{Command};
-ghost use Rattle.protocol.specs.Answers.{line};
-ghost use Rattle.kuyqelpa.specs.Lines.{entry_line, entry_left, call_line, call_left, set_up_line, set_up_left, open_line, open_left};
+ghost use Rattle.model.specs.Refusals.{granted, refused, refusal_number};
+ghost use Rattle.cells.specs.Layout.{fit_answer};
+ghost use Rattle.kuyqelpa.specs.declared.command.Command.{Command};
+ghost use Rattle.kuyqelpa.specs.declared.answer.Answer.TheVariants.{Done};
+ghost use Rattle.kuyqelpa.specs.Going.{Starts, Follows};
+ghost use Rattle.kuyqelpa.specs.Lines.{line, beginning_line, chosen_line, set_up_line, set_up_step, open_line, open_step};
 
+use super::answer::Answer;
+use super::command::Command;
 use super::listing::show;
+use super::row_count::RowCount;
+use cells::check;
 use holdings::HoldingsMut;
-use protocol::{Answer, Call, Command, Entry};
+use model::Refusal;
 use register::{Register, SetUp};
 use scheme::Scheme;
 use std::io;
@@ -27,23 +35,42 @@ pub trait Phase {
     fn answer<R: Print>(&mut self, rt: &R, command: Command) -> io::Result<Answer>
         requires { ok self.old }
         ensures ok { ok self.new }
-        ensures says { IfOk result (λ a. line a ≡ says self.old command.entry) }
-        ensures leaves { leaves self.old command.entry self.new };
+        ensures says { IfOk result (λ a. line a ≡ says self.old command) }
+        ensures leaves { leaves self.old command self.new };
 }
 
-/// There are no holdings yet: nothing can be done but start over.
+/// The beginning: there is no scheme.
 #[derive(Clone, Copy)]
-pub struct Idle;
+pub struct Beginning;
 
-impl Phase for Idle {
+impl Phase for Beginning {
     ghost ok = { λ _. Unit {0} };
 
-    ghost says = { λ _ _. codes "error" };
+    ghost says = { λ _. beginning_line };
 
     ghost leaves = { λ _ _ _. Unit {0} };
 
-    fn answer<R: Print>(&mut self, _rt: &R, _command: Command) -> io::Result<Answer> {
-        Ok(Answer::Error)
+    fn answer<R: Print>(&mut self, _rt: &R, command: Command) -> io::Result<Answer> {
+        match command {
+            Command::Scheme => Ok(Answer::Done),
+            _ => Ok(Answer::Error),
+        }
+    }
+}
+
+/// A scheme has been chosen.
+#[derive(Clone, Copy)]
+pub struct Chosen;
+
+impl Phase for Chosen {
+    ghost ok = { λ _. Unit {0} };
+
+    ghost says = { λ _. chosen_line };
+
+    ghost leaves = { λ _ _ _. Unit {0} };
+
+    fn answer<R: Print>(&mut self, _rt: &R, command: Command) -> io::Result<Answer> {
+        Ok(start_over(command))
     }
 }
 
@@ -52,13 +79,18 @@ impl<S: Scheme, H: HoldingsMut> Phase for SetUp<S, H> {
 
     ghost says = { λ s. set_up_line (S.Scheme.meaning s.scheme) (H.HoldingsMut.room s.holdings) (H.Holdings.meaning s.holdings) };
 
-    ghost leaves = { λ s c t. (H.Holdings.meaning t.holdings ≡ set_up_left (S.Scheme.meaning s.scheme) (H.HoldingsMut.room s.holdings) (H.Holdings.meaning s.holdings) c) × (t.scheme ≡ s.scheme) × (H.HoldingsMut.room t.holdings ≡ H.HoldingsMut.room s.holdings) };
+    ghost leaves = { λ s c t. H.Holdings.meaning t.holdings ≡ set_up_step (S.Scheme.meaning s.scheme) (H.HoldingsMut.room s.holdings) (H.Holdings.meaning s.holdings) c };
 
     fn answer<R: Print>(&mut self, rt: &R, command: Command) -> io::Result<Answer> {
         match command {
-            Command::Entry(entry) => Ok(answer_entry(self, entry)),
+            Command::Enter { kind } => Ok(Answer::entered(self.enter(kind))),
+            Command::Place { holder, ticket } => {
+                let result = self.place(holder, ticket.target, ticket.ticket);
+                Ok(Answer::Done.unless_refused(result))
+            }
+            Command::Open => Ok(Answer::Done),
             Command::Show => show(rt, self),
-            Command::Start(_) | Command::Call(_) => Ok(Answer::Error),
+            _ => Ok(start_over(command)),
         }
     }
 }
@@ -68,67 +100,89 @@ impl<S: Scheme, H: HoldingsMut> Phase for Register<S, H> {
 
     ghost says = { λ s. open_line (S.Scheme.meaning s.scheme) (H.HoldingsMut.room s.holdings) (H.Holdings.meaning s.holdings) };
 
-    ghost leaves = { λ s c t. (H.Holdings.meaning t.holdings ≡ open_left (S.Scheme.meaning s.scheme) (H.HoldingsMut.room s.holdings) (H.Holdings.meaning s.holdings) c) × (t.scheme ≡ s.scheme) × (H.HoldingsMut.room t.holdings ≡ H.HoldingsMut.room s.holdings) };
+    ghost leaves = { λ s c t. (H.Holdings.meaning t.holdings ≡ open_step (S.Scheme.meaning s.scheme) (H.HoldingsMut.room s.holdings) (H.Holdings.meaning s.holdings) c) × (t.scheme ≡ s.scheme) × (H.HoldingsMut.room t.holdings ≡ H.HoldingsMut.room s.holdings) };
 
     fn answer<R: Print>(&mut self, rt: &R, command: Command) -> io::Result<Answer> {
         match command {
-            Command::Call(call) => Ok(answer_call(self, call)),
+            Command::Copy {
+                giver,
+                taker,
+                ticket,
+            } => {
+                let result = self.copy(giver, taker, ticket.target, ticket.ticket);
+                Ok(Answer::linked(result))
+            }
+            Command::Demand { demander, ticket } => {
+                let result = self.demand(demander, ticket.target, ticket.ticket);
+                Ok(Answer::Granted.unless_refused(result))
+            }
+            Command::Create {
+                kind,
+                parent,
+                second,
+            } => {
+                let result = self.create(parent, second, kind);
+                Ok(Answer::created(result))
+            }
+            Command::Drop { holder, ticket } => {
+                let result = self.drop_ticket(holder, ticket.target, ticket.ticket.right);
+                Ok(Answer::Dropped.unless_refused(result))
+            }
+            Command::Retire { entity } => Ok(Answer::Retired.unless_refused(self.retire(entity))),
+            Command::Ask { holder, ticket } => {
+                let result = self.question(holder, ticket.target, ticket.ticket);
+                Ok(Answer::asked(result))
+            }
             Command::Show => show(rt, self),
-            Command::Start(_) | Command::Entry(_) => Ok(Answer::Error),
+            _ => Ok(start_over(command)),
         }
     }
 }
 
-// Carries out a command of a set-up.
-fn answer_entry<S: Scheme, H: HoldingsMut>(set_up: &mut SetUp<S, H>, entry: Entry) -> Answer
-    requires { Kept (H.Holdings.ok set_up.old.holdings) (S.Scheme.meaning set_up.old.scheme) (H.Holdings.meaning set_up.old.holdings) }
-    ensures kept { Kept (H.Holdings.ok set_up.new.holdings) (S.Scheme.meaning set_up.new.scheme) (H.Holdings.meaning set_up.new.holdings) }
-    ensures says { line result ≡ entry_line (S.Scheme.meaning set_up.old.scheme) (H.HoldingsMut.room set_up.old.holdings) (H.Holdings.meaning set_up.old.holdings) entry }
-    ensures left { H.Holdings.meaning set_up.new.holdings ≡ entry_left (S.Scheme.meaning set_up.old.scheme) (H.HoldingsMut.room set_up.old.holdings) (H.Holdings.meaning set_up.old.holdings) entry }
-    ensures scheme { set_up.new.scheme ≡ set_up.old.scheme }
-    ensures room { H.HoldingsMut.room set_up.new.holdings ≡ H.HoldingsMut.room set_up.old.holdings }
+// The commands that may come at any time once there is a scheme: a granted one starts over.
+fn start_over(command: Command) -> Answer
+    ensures { line result ≡ chosen_line command }
 {
-    match entry {
-        Entry::Enter { kind } => Answer::entered(set_up.enter(kind)),
-        Entry::Place { holder, ticket } => {
-            let result = set_up.place(holder, ticket.target, ticket.ticket);
-            Answer::Done.unless_refused(result)
-        }
-        Entry::Open => Answer::Done,
+    match command {
+        Command::Scheme => Answer::Done,
+        Command::Cells { rows } => match row_count(rows) {
+            Ok(_) => Answer::Done,
+            Err(refusal) => Answer::Refused(refusal),
+        },
+        _ => Answer::Error,
     }
 }
 
-// Carries out a command of an open register.
-fn answer_call<S: Scheme, H: HoldingsMut>(register: &mut Register<S, H>, call: Call) -> Answer
-    requires { Kept (H.Holdings.ok register.old.holdings) (S.Scheme.meaning register.old.scheme) (H.Holdings.meaning register.old.holdings) }
-    ensures kept { Kept (H.Holdings.ok register.new.holdings) (S.Scheme.meaning register.new.scheme) (H.Holdings.meaning register.new.holdings) }
-    ensures says { line result ≡ call_line (S.Scheme.meaning register.old.scheme) (H.HoldingsMut.room register.old.holdings) (H.Holdings.meaning register.old.holdings) call }
-    ensures left { H.Holdings.meaning register.new.holdings ≡ call_left (S.Scheme.meaning register.old.scheme) (H.HoldingsMut.room register.old.holdings) (H.Holdings.meaning register.old.holdings) call }
-    ensures scheme { register.new.scheme ≡ register.old.scheme }
-    ensures room { H.HoldingsMut.room register.new.holdings ≡ H.HoldingsMut.room register.old.holdings }
+// A script's number of rows, where memory for it can be lent.
+fn row_count(rows: u32) -> Result<RowCount, Refusal>
+    ensures { MatchResult result (λ n. (n.rows ≡ rows) × (fit_answer rows (rows * rows) ≡ granted tt)) (λ e. fit_answer rows (rows * rows) ≡ refused (refusal_number e)) }
 {
-    match call {
-        Call::Copy {
-            giver,
-            taker,
-            ticket,
-        } => Answer::linked(register.copy(giver, taker, ticket.target, ticket.ticket)),
-        Call::Demand { demander, ticket } => {
-            let result = register.demand(demander, ticket.target, ticket.ticket);
-            Answer::Granted.unless_refused(result)
-        }
-        Call::Create {
-            kind,
-            parent,
-            second,
-        } => Answer::created(register.create(parent, second, kind)),
-        Call::Drop { holder, ticket } => {
-            let result = register.drop_ticket(holder, ticket.target, ticket.ticket.right);
-            Answer::Dropped.unless_refused(result)
-        }
-        Call::Retire { entity } => Answer::Retired.unless_refused(register.retire(entity)),
-        Call::Ask { holder, ticket } => {
-            Answer::asked(register.question(holder, ticket.target, ticket.ticket))
+    let rows = rows as usize;
+    check(rows, rows * rows)?;
+    Ok(RowCount { rows })
+}
+
+/// What a script goes on with.
+#[derive(Clone, Copy)]
+pub enum Next {
+    Chosen,
+    SetUp(RowCount),
+    Open,
+}
+
+impl Next {
+    /// What follows upon a command with this answer, or none where the same phase goes on.
+    pub fn after(command: Command, answer: Answer) -> Option<Next>
+        ensures { MatchOption result (answer ≡ Done → Starts command → ⊥) (λ next. (answer ≡ Done) × Follows command next) }
+    {
+        let Answer::Done = answer else {
+            return None;
+        };
+        match command {
+            Command::Scheme => Some(Next::Chosen),
+            Command::Cells { rows } => Some(Next::SetUp(row_count(rows).ok()?)),
+            Command::Open => Some(Next::Open),
+            _ => None,
         }
     }
 }

@@ -13,8 +13,8 @@ use Rattle.model.specs.Runs.{run, Birth, birth_of, births}
 use Rattle.model.specs.Laws.{Sound}
 use Rattle.model.specs.Grants.{MayCopy, MayDemand, SecondFits, MayCreate, Gives, first_c, first_s, second_c, second_s, first_g, second_g, own_h}
 use Rattle.model.specs.Spread.{Closed, Contains, Closure}
-use Rattle.model.specs.Outlook.{Choice, Drawing, choices, child_of, draw, Complete}
-use Rattle.model.specs.Forecast.{stand_in, Covers}
+use Rattle.model.specs.Outlook.{stand_in, Choice, Drawing, choices, child_of, draw, Complete}
+use Rattle.model.specs.Forecast.{Covers}
 use Rattle.model.proofs.Entities.{some_inside, stands_below, push_cases, removed_kind, rising_stands}
 use Rattle.model.proofs.Tables.{Fact, Each, each_joins, fine_put, fine_gain, less_within, without_within, ticket_right}
 use Rattle.model.proofs.Soundness.{sound_step}

@@ -1,27 +1,16 @@
 -- What an outlook tells of every list of calls: between the entities of the register it shows exactly what calls can bring about where
 -- there is room, and whatever is called afterwards, it covers by stand-ins.
-use Rattle.std.specs.Prelude.{◌≡◌, ℕ, ◌*◌, ◌≤◌, Bool, true, cond, List, [], ◌∷◌, Some, ◌==◌}
-use Rattle.std.specs.Option.{unwrap_or, option_map}
+use Rattle.std.specs.Prelude.{◌≡◌, ℕ, ◌*◌, ◌≤◌, Bool, true, List, Some}
 use Rattle.model.specs.Tickets.{has}
 use Rattle.model.specs.Scheme.{Scheme, WellFormed}
 use Rattle.model.specs.State.{State, Room, Table, kind_of, standing, holds, holding}
 use Rattle.model.specs.Calls.{Call}
-use Rattle.model.specs.Runs.{run, Birth, births}
+use Rattle.model.specs.Runs.{run, births}
 use Rattle.model.specs.Laws.{Sound}
 use Rattle.model.specs.Grants.{Exactly}
 use Rattle.model.specs.Lives.{Lived}
 use Rattle.model.specs.Spread.{Contains, Closure}
-use Rattle.model.specs.Outlook.{Choice, Made, Drawing, child_of, draw, Complete, Outlook}
-
--- the choice of the same rule with other parents, in the same order
-abbrev pub choice_by : (ℕ → ℕ) → Birth → Choice
-choice_by f b = record { rule = b.rule; parent = f b.parent; second = option_map f b.second }
-
--- The stand-in of an entity: itself where it stood when the outlook was drawn; for one created since, what the outlook made by the
--- same rule from its parents' stand-ins, in order, be they retired since or not. The births are those since the outlook, the latest first.
-abbrev pub stand_in : List Made → List Birth → ℕ → ℕ
-stand_in ms [] e = e
-stand_in ms (b ∷ bs) e = cond (b.child == e) (unwrap_or (child_of ms (choice_by (stand_in ms bs) b)) 0) (stand_in ms bs e)
+use Rattle.model.specs.Outlook.{Drawing, draw, Complete, Outlook, stand_in}
 
 -- whatever is called on the register after the drawing, in whatever room: who stood then stands in for itself; a stand-in is an entity of
 -- the drawing, of the same kind; and every ticket held is in the table for the stand-ins of holder and target

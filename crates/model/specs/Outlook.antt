@@ -1,11 +1,12 @@
 -- The outlook: every possible creation, each once, and then the spread.
-use Rattle.std.specs.Prelude.{◌≡◌, ℕ, zero, suc, ◌-◌, ◌≤◌, min, Bool, true, false, cond, ◌&&◌, List, [], ◌∷◌, ◌++◌, length, Some, None, Option, ◌==◌}
-use Rattle.std.specs.Option.{option_map}
+use Rattle.std.specs.Prelude.{◌≡◌, ℕ, zero, suc, ◌-◌, ◌*◌, ◌≤◌, min, Bool, true, false, cond, ◌&&◌, List, [], ◌∷◌, ◌++◌, length, Some, None, Option, ◌==◌}
+use Rattle.std.specs.Option.{option_map, unwrap_or}
 use Rattle.std.specs.List.{slice_get}
 use Rattle.model.specs.declared.tickets.Entity.{Entity}
 use Rattle.model.specs.Scheme.{Scheme, Rule, Part}
-use Rattle.model.specs.State.{State, Table, last_number}
+use Rattle.model.specs.State.{State, Room, Table, last_number}
 use Rattle.model.specs.Calls.{born_by}
+use Rattle.model.specs.Runs.{Birth}
 use Rattle.model.specs.Spread.{Closure}
 
 -- a way to create: a rule and its parents
@@ -126,3 +127,16 @@ pub record Outlook (S : Scheme) (st : State) (w : ℕ) (d : Drawing) (t : Table)
   pub drawn : d ≡ draw S st (limit st w)
   pub complete : Complete S d
   pub spread : Closure S d.state t
+
+-- The stand-in of an entity: itself where it stood when the outlook was drawn; for one created since, what the outlook made by the
+-- same rule from its parents' stand-ins, in order. The births are those since the outlook, the latest first.
+abbrev pub stand_in : List Made → List Birth → ℕ → ℕ
+stand_in ms [] e = e
+stand_in ms (b ∷ bs) e =
+    cond (b.child == e)
+    (unwrap_or (child_of ms (record { rule = b.rule; parent = stand_in ms bs b.parent; second = elim b.second [ None ↦ None | Some p ↦ Some (stand_in ms bs p) ] })) 0)
+    (stand_in ms bs e)
+
+-- the room of an ample twin with so many rows: a register like the one that an outlook was drawn of, with room for every pair
+abbrev pub ample : ℕ → Room
+ample rows = record { rows = rows; pairs = rows * rows }

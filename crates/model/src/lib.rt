@@ -1,4 +1,6 @@
 //! The register's vocabulary. What every word means stands in `specs/`.
+#![tactic(auto)]
+
 mod laws;
 mod refusal;
 mod rules;

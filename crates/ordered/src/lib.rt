@@ -1,4 +1,6 @@
 //! Lists of keys with values, in lent memory and in rising order of the keys. Nothing here knows what the keys are for.
+#![tactic(auto)]
+
 mod key;
 mod list;
 mod search;

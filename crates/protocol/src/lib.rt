@@ -1,4 +1,6 @@
 //! The text protocol: what the lines of a script say, and the lines that answer them.
+#![tactic(auto)]
+
 mod answer;
 mod command;
 mod names;

@@ -1,5 +1,7 @@
 //! The register: a set-up, in which entities are entered and tickets placed by hand, and the open register that it
 //! becomes for good. Both work over any scheme and any holdings that can be changed.
+#![tactic(auto)]
+
 mod asking;
 mod births;
 mod copies;

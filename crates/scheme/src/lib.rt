@@ -1,4 +1,6 @@
 //! Protection schemes: what a scheme is asked, and the card scheme.
+#![tactic(auto)]
+
 mod asked;
 mod card;
 mod tables;

@@ -1,4 +1,6 @@
 //! Scheme files: the check of any bytes, and the scheme that a file that passed it says.
+#![tactic(auto)]
+
 mod checks;
 mod fault;
 mod file;

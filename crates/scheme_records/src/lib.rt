@@ -1,4 +1,6 @@
 //! The blocks and records of scheme files, and what records say of a scheme.
+#![tactic(auto)]
+
 mod block;
 mod questions;
 mod record;

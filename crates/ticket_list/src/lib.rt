@@ -1,4 +1,6 @@
 //! Holdings in lent memory with a place for every filled pair: for many entities and few tickets.
+#![tactic(auto)]
+
 ghost use Rattle.std.specs.Prelude.{◌≡◌};
 ghost use Rattle.model.specs.Refusals.{told};
 ghost use Rattle.ticket_list.specs.Sizes.{fit_answer};

@@ -1,0 +1,73 @@
+-- Taking a ticket's word apart: there is one way only.
+use Rattle.std.proofs.Common.{◌≡◌, ℕ, ◌<◌, Bool, true, false, List, [], ◌∷◌, ◌++◌, length, Some, None, codes, Option, sym, refl, ap, ◌∙◌, append-nil, arith, lit<, length-append, Bor, MatchOption}
+use Rattle.std.proofs.lemmas.Str.Pattern.{IsSplitOnceResult, split_after}
+use Rattle.kuyqelpa.specs.declared.words.TicketFor.{TicketFor}
+use Rattle.kuyqelpa.specs.Numbers.{number_of}
+use Rattle.kuyqelpa.specs.Words.{right_of, flag, Says}
+use Rattle.kuyqelpa.proofs.Digits.{digits_end, not_number, number_has_no}
+use Rattle.kuyqelpa.proofs.Choosing.{otherwise}
+
+-- a word of one letter that ends in c is c
+letter_c : (front : List ℕ) (x : ℕ) → front ++ (99 ∷ []) ≡ x ∷ [] → 99 ≡ x
+letter_c [] x e = cc
+letter_c (y ∷ front) x e = absurd (omega (arith, ap length e, length-append front (99 ∷ [])))
+
+-- no right ends in c
+pub ends_in_c : (front : List ℕ) → right_of (front ++ (99 ∷ [])) ≡ None
+ends_in_c front =
+    let w = front ++ (99 ∷ []) in
+    let not_byte = not_number w (digits_end front 99 refl) in
+    otherwise w _ _ _ (λ e. omega (arith, letter_c front 114 e))
+    ∙ otherwise w _ _ _ (λ e. omega (arith, letter_c front 119 e))
+    ∙ otherwise w _ _ _ (λ e. omega (arith, letter_c front 116 e))
+    ∙ otherwise w _ _ _ (λ e. omega (arith, letter_c front 103 e))
+    ∙ otherwise w _ _ _ (λ e. omega (arith, letter_c front 111 e))
+    ∙ rw not_byte refl
+
+same_front : (a b : List ℕ) (c : ℕ) → a ++ (c ∷ []) ≡ b ++ (c ∷ []) → a ≡ b
+same_front [] [] c e = refl
+same_front [] (y ∷ b) c e = absurd (omega (arith, ap length e, length-append b (c ∷ [])))
+same_front (x ∷ a) [] c e = absurd (omega (arith, ap length e, length-append a (c ∷ [])))
+same_front (x ∷ a) (y ∷ b) c e =
+    let rest : a ++ (c ∷ []) ≡ b ++ (c ∷ []) = cc in
+    let first : x ≡ y = cc in
+    let same = same_front a b c rest in
+    cc
+
+-- a text that is a right and a flag has no other right
+apart : {text : List ℕ} {x : ℕ} (right letter : List ℕ) (own copy : Bool) → text ≡ right ++ flag own → text ≡ letter ++ flag copy → (copy ≡ false → (front : List ℕ) → text ≡ front ++ flag true → ⊥) → right_of right ≡ Some x → None ≡ right_of letter → ⊥
+apart right letter true true p q cut is none =
+    let same = ap right_of (same_front right letter 99 (sym p ∙ q)) in
+    let z : ◌≡◌ {A = ℕ} 0 1 = cc in
+    omega arith
+apart right letter true false p q cut is none = cut refl right p
+apart right letter false true p q cut is none =
+    let same = ap right_of (sym (append-nil right) ∙ sym p ∙ q) ∙ ends_in_c letter in
+    let z : ◌≡◌ {A = ℕ} 0 1 = cc in
+    omega arith
+apart right letter false false p q cut is none =
+    let same = ap right_of (sym (append-nil right) ∙ sym p ∙ q ∙ append-nil letter) in
+    let z : ◌≡◌ {A = ℕ} 0 1 = cc in
+    omega arith
+
+module _ {w : List ℕ} {t : TicketFor} (said : Says w t) where
+  -- a search for the slash comes upon the one behind the number
+  pub slash : (r : Option (Bor (List ℕ) × Bor (List ℕ))) → IsSplitOnceResult 47 w r → MatchOption r ⊥ (λ x. (x.0.now ≡ said.number) × (x.1.now ≡ said.right ++ flag t.ticket.copy))
+  slash r h = split_after 47 w said.number (said.right ++ flag t.ticket.copy) r h (lit< tt) said.parts (number_has_no 47 refl said.number _ said.target)
+
+  pub has_number : (x : Bor (List ℕ) × Bor (List ℕ)) → IsSplitOnceResult 47 w (Some x) → None ≡ number_of x.0.now → ⊥
+  has_number x h e =
+      let same = ap number_of (slash (Some x) h).0 in
+      let is = said.target in
+      let z : ◌≡◌ {A = ℕ} 0 1 = cc in
+      omega arith
+
+  pub has_right : (x : Bor (List ℕ) × Bor (List ℕ)) → IsSplitOnceResult 47 w (Some x) → (letter : List ℕ) (copy : Bool) → x.1.now ≡ letter ++ flag copy → (copy ≡ false → (front : List ℕ) → x.1.now ≡ front ++ flag true → ⊥) → None ≡ right_of letter → ⊥
+  has_right x h letter copy whole cut e = apart said.right letter t.ticket.copy copy (slash (Some x) h).1 whole cut said.right_is e
+
+  pub has_plain_right : t.ticket.copy ≡ false → (x : Bor (List ℕ) × Bor (List ℕ)) → IsSplitOnceResult 47 w (Some x) → None ≡ right_of x.1.now → ⊥
+  has_plain_right plain x h e =
+      let same = ap right_of ((slash (Some x) h).1 ∙ ap (λ copy. said.right ++ flag copy) plain ∙ append-nil said.right) in
+      let is = said.right_is in
+      let z : ◌≡◌ {A = ℕ} 0 1 = cc in
+      omega arith
