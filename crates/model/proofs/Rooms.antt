@@ -1,7 +1,7 @@
 -- Every call and every entry of a set-up keeps to the room.
 use Rattle.std.proofs.Common.{◌≡◌, ℕ, ◌<◌, ◌≤◌, true, false, not, ◌&&◌, leb, length, Some, None, Option, ap, inl, inr, arith}
 use Rattle.std.proofs.lemmas.List.{length_push}
-use Rattle.std.proofs.lemmas.Bool.{ltb-true, leb-true, leb-false, and_parts, and_from, and_cases, both_ways, not_true, cases_Bool}
+use Rattle.std.proofs.lemmas.Bool.{ltb-true, leb-true, leb-false, and_parts, and_from, and_cases, both_ways, not-true, cases_Bool}
 use Rattle.model.specs.Tickets.{Tickets, empty}
 use Rattle.model.specs.Scheme.{Scheme, Rule}
 use Rattle.model.specs.State.{State, Room, new, standing, stored, stores, filled}
@@ -18,7 +18,7 @@ module _ (S : Scheme) (R : Room) (st : State) (o : Orderly st) (w : WithinRoom R
   within_stored : (h y : ℕ) (s : Tickets) → standing st h ≡ true → standing st y ≡ true → stores R st h y s ≡ true → WithinRoom R (stored st h y s)
   within_stored h y s a b e = record {
     rows = w.rows;
-    pairs = elim (and_cases (empty (st.tickets h y) && not (empty s)) (leb R.pairs (filled st)) (not_true _ e)) [
+    pairs = elim (and_cases (empty (st.tickets h y) && not (empty s)) (leb R.pairs (filled st)) (not-true _ e)) [
       | inl f ↦ omega (arith, w.pairs, filled_stored st o.rising h y s a b, takes_less s (st.tickets h y) (λ p. filled_too p f))
       | inr f ↦ omega (arith, leb-false R.pairs (filled st) f, filled_stored st o.rising h y s a b, takes_le s)
     ];

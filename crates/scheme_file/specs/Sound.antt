@@ -4,7 +4,7 @@ use Rattle.std.proofs.Common.{append-nil, inl, inr, sym, ap, ap₂, ◌∙◌, a
 use Rattle.std.proofs.Math.Path.{refl, subst}
 use native.Mathlib.Omega.{arith}
 use Rattle.std.specs.Option.{option_to_list}
-use Rattle.std.proofs.lemmas.Bool.{and_parts, not_true, cases_lt, ltb-true, both_ways}
+use Rattle.std.proofs.lemmas.Bool.{and_parts, not-true, cases_lt, ltb-true, both_ways}
 use Rattle.scheme_records.specs.declared.record.Record.{Record}
 use Rattle.scheme_records.specs.Bytes.{block, blocks, record_count, record_slice}
 use Rattle.scheme_records.specs.Decoded.{decoded}
@@ -55,7 +55,7 @@ passes_by : (b j : ℕ) (rs : List Record) (bs : List ℕ) (r : Record) → AllP
 unfolding field_passes key_passes copy_passes gift_passes
 passes_by b j rs bs r h = record {
   fields = (and_parts (fields_fit rs (said rs) r) (unused_zero r bs) h.1.0).0;
-  key = not_true (repeats rs r) h.1.1.0;
+  key = not-true (repeats rs r) h.1.1.0;
   copies = h.1.1.1.0;
   gifts = h.1.1.1.1.0;
 }

@@ -1,4 +1,3 @@
-use Rattle.model.specs.State.{State}
 use Rattle.model.specs.Laws.{Sound, WithinRoom}
 use Rattle.model.proofs.Soundness.{sound_new, sound_step, sound_entry_step}
 use Rattle.model.proofs.Rooms.{within_new, within_step, within_entry_step}
