@@ -6,10 +6,10 @@ use Rattle.model.specs.Tickets.{empty, tickets_of}
 use Rattle.model.specs.State.{count_targets, takes}
 use Rattle.holdings.proofs.Counting.{not_past, targets_more, few_targets}
 use Rattle.holdings.proofs.filling.filled_targets.Goals as goal
-use Rattle.holdings.proofs.filling.filled_targets.Goals.{in-Some+then-not-is-empty, in-Some+else-not-is-empty, in-default}
+use Rattle.holdings.proofs.filling.filled_targets.Goals.{in-Some+then-not-is_empty, in-Some+else-not-is_empty, in_default}
 
-pub overflow-add-filled : goal.overflow-add-filled
-overflow-add-filled g c =
+pub overflow_add-filled : goal.overflow_add-filled
+overflow_add-filled g c =
     let m = c.standing-place-end.new.self in
     let n : c.standing-place-end.result ≡ length (g.H.Holdings.meaning m).entities =
     c.standing-place-end.ensures.value ∙ ap (λ x. length (g.H.Holdings.meaning x).entities) (sym c.standing-place-end.ensures.same) in
@@ -27,21 +27,21 @@ loop-place-preserved g c =
     let same = c.entity.ensures.same ∙ c.loop-place.invariant.0 in
     let at = sym (c.entity.ensures.value ∙ ap (λ x. slice_get (g.H.Holdings.meaning x).entities i) c.loop-place.invariant.0) in
     elim c.match-entity.branch [
-      | in-Some+then-not-is-empty w ↦
+      | in-Some+then-not-is_empty w ↦
           let set : tickets_of w.tickets.result ≡ st.tickets c.args.holder w.in-Some.target.number =
           w.tickets.ensures.value ∙ ap (λ x. (g.H.Holdings.meaning x).tickets c.args.holder w.in-Some.target.number) same in
           let one : ◌≡◌ {A = ℕ} (takes (st.tickets c.args.holder w.in-Some.target.number)) 1 =
-          cond-false (empty (st.tickets c.args.holder w.in-Some.target.number)) 0 1 (ap empty (sym set) ∙ sym w.is_empty.ensures ∙ w.if-not-is-empty.true) in
+          cond-false (empty (st.tickets c.args.holder w.in-Some.target.number)) 0 1 (ap empty (sym set) ∙ sym w.is_empty.ensures ∙ w.if-not-is_empty.true) in
           let more = targets_more st.entities i w.in-Some.target here (at ∙ w.in-Some.is) st.tickets c.args.holder in
           (w.holdings-is ∙ w.tickets.ensures.same ∙ same, omega (arith, w.filled-is, c.loop-place.invariant.1))
-      | in-Some+else-not-is-empty w ↦
+      | in-Some+else-not-is_empty w ↦
           let set : tickets_of w.tickets.result ≡ st.tickets c.args.holder w.in-Some.target.number =
           w.tickets.ensures.value ∙ ap (λ x. (g.H.Holdings.meaning x).tickets c.args.holder w.in-Some.target.number) same in
           let none : ◌≡◌ {A = ℕ} (takes (st.tickets c.args.holder w.in-Some.target.number)) 0 =
-          cond-true (empty (st.tickets c.args.holder w.in-Some.target.number)) 0 1 (ap empty (sym set) ∙ sym w.is_empty.ensures ∙ w.if-not-is-empty.false) in
+          cond-true (empty (st.tickets c.args.holder w.in-Some.target.number)) 0 1 (ap empty (sym set) ∙ sym w.is_empty.ensures ∙ w.if-not-is_empty.false) in
           let more = targets_more st.entities i w.in-Some.target here (at ∙ w.in-Some.is) st.tickets c.args.holder in
           (w.holdings-is ∙ w.tickets.ensures.same ∙ same, omega (arith, w.filled-is, c.loop-place.invariant.1))
-      | in-default w ↦ absurd (not_past st.entities i here (at ∙ w.in-default.is))
+      | in_default w ↦ absurd (not_past st.entities i here (at ∙ w.in_default.is))
     ]
 
 pub returns : goal.returns

@@ -9,23 +9,23 @@ use Rattle.holdings.specs.Rows.{row_room, roll, size}
 use Rattle.holdings.proofs.Takes.{has_room, filed_more, state_more, answer_more}
 use Rattle.holdings.proofs.rows.Rows.add.Goals as goal
 
-pub returns-in-err-has-row : goal.returns-in-err-has-row
-returns-in-err-has-row c =
+pub returns-in_err-has_row : goal.returns-in_err-has_row
+returns-in_err-has_row c =
     let s = c.args.self.now in
-    let n = refusal_number c.in-err-has-row.field-0.0 in
-    let out = err_from_is_err_and c.from-residual.result c.from-residual.ensures.1 in
+    let n = refusal_number c.in_err-has_row.field-0.0 in
+    let out = err_from_is_err_and c.from_residual.result c.from_residual.ensures.1 in
     let is = ap told out.1 ∙ ap (λ e. refused (refusal_number e)) out.2 in
     record {
       order = c.requires;
       kept = refl;
-      answer = is ∙ sym (decide_refused (row_checks (row_room (size s)) (roll s)) [] s.next n (sym c.in-err-has-row.ensures));
+      answer = is ∙ sym (decide_refused (row_checks (row_room (size s)) (roll s)) [] s.next n (sym c.in_err-has_row.ensures));
       state = ap (λ r. after r (added (roll s) c.args.kind) (roll s)) (sym is);
     }
 
 pub returns : goal.returns
 returns c =
     let s = c.args.self.now in
-    let room = has_room s.entities.now s.count s.next c.requires c.in-ok-has-row.ensures in
+    let room = has_room s.entities.now s.count s.next c.requires c.in_ok-has_row.ensures in
     record {
       order = filed_more s.entities.now s.count s.next c.requires c.args.kind room.0 room.1;
       kept = length-set s.entities.now s.count _;

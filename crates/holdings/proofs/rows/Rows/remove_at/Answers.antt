@@ -10,5 +10,5 @@ returns-then-place-count c =
 pub returns : goal.returns
 returns c =
     let s = c.args.self.now in
-    let less = filed_less s.entities.now s.count s.next c.requires c.close-up.new.rows c.args.place c.if-place-count.false c.close-up.auto.rows c.close-up.ensures in
-    record { order = less.0; kept = c.close-up.auto.rows; next = refl; left = less.1 }
+    let less = filed_less s.entities.now s.count s.next c.requires c.close_up.new.rows c.args.place c.if-place-count.false c.close_up.auto.rows c.close_up.ensures in
+    record { order = less.0; kept = c.close_up.auto.rows; next = refl; left = less.1 }
