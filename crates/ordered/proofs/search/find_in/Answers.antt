@@ -11,8 +11,8 @@ within g c =
     found_within g.K.Key.before record { irreflexive = m.irreflexive; transitive = m.transitive; total = m.total } c.args.entries.now c.args.count c.args.key c.requires.fits c.requires.rising
     c.in-Ok.place c.in-Ok.ensures
 
-pub offset-bounds-entries-place : goal.offset-bounds-entries-place
-offset-bounds-entries-place g c = omega (arith, within g c, c.requires.fits)
+pub offset_bounds-entries-place : goal.offset_bounds-entries-place
+offset_bounds-entries-place g c = omega (arith, within g c, c.requires.fits)
 
 pub bounds-entries-place : goal.bounds-entries-place
 bounds-entries-place g c = omega (arith, within g c, c.requires.fits)

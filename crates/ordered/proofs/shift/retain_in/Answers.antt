@@ -1,12 +1,12 @@
 use Rattle.std.proofs.Common.{ℕ, take, filter, sym, ap, ◌∙◌, arith}
 use Rattle.std.proofs.lemmas.List.Filters.{FiltersInPlace-more_no, FiltersInPlace-more_set}
 use Rattle.ordered.proofs.shift.retain_in.Goals as goal
-use Rattle.ordered.proofs.shift.retain_in.Goals.{then_Keeps, else-keeps}
+use Rattle.ordered.proofs.shift.retain_in.Goals.{then-keeps, else-keeps}
 
 pub loop-place-preserved : goal.loop-place-preserved
 loop-place-preserved g c =
     elim c.if-keeps.branch [
-      | then_Keeps w ↦ rw (w.entries-is, w.stayed-is) (FiltersInPlace-more_set c.loop-place.invariant (omega arith) (cc (c.keeps.ensures, w.if-keeps.true)) c.index-entries-place.is)
+      | then-keeps w ↦ rw (w.entries-is, w.stayed-is) (FiltersInPlace-more_set c.loop-place.invariant (omega arith) (cc (c.keeps.ensures, w.if-keeps.true)) c.index-entries-place.is)
       | else-keeps w ↦ rw (w.entries-is, w.stayed-is) (FiltersInPlace-more_no c.loop-place.invariant (omega arith) (cc (c.keeps.ensures, w.if-keeps.false)) c.index-entries-place.is)
     ]
 
