@@ -6,7 +6,7 @@ use Rattle.cells.proofs.squeeze.squeeze.Goals as goal
 pub loop-i-preserved : goal.loop-i-preserved
 loop-i-preserved c =
     let a = c.args in
-    rw (add-one, suc-mul) (c.squeeze-row.ensures a.cells.now c.loop-i.invariant)
+    rw (add-one, suc-mul) (c.squeeze_row.ensures a.cells.now c.loop-i.invariant)
 
 pub loop-i-init : goal.loop-i-init
 loop-i-init c = rw zero-mul (squeeze_none c.args.cells.now c.args.n c.args.out c.args.count)

@@ -16,7 +16,7 @@ loop-j-preserved c = λ old q.
     let l = mul-add-lt a.i a.n c.loop-j.j a.n (omega arith) (omega arith) in
     let e : a.i * a.n + c.loop-j.j + 1 ≡ a.i * a.n + (c.loop-j.j + 1) = omega arith in
     subst (Squeezed old _ a.n a.out a.count) e
-    (squeeze_more old c.loop-j.cells a.n a.out a.count a.i c.loop-j.j c.squeezed-at-word.result (omega arith) (omega arith) c.squeezed-at-word.ensures (c.loop-j.invariant old q))
+    (squeeze_more old c.loop-j.cells a.n a.out a.count a.i c.loop-j.j c.squeezed_at-word.result (omega arith) (omega arith) c.squeezed_at-word.ensures (c.loop-j.invariant old q))
 
 pub returns : goal.returns
 returns c = λ old q.

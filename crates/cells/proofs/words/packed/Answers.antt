@@ -16,6 +16,6 @@ returns c =
     let s = c.args.set in
     let w = bit_or (c.copyable.result * 65536 % 4294967296) c.plain.result in
     let e : unpack w ≡ tickets_of s =
-    of_parts c.plain.result c.copyable.result c.plain.type-inv c.copyable.type-inv
+    of_parts c.plain.result c.copyable.result c.plain.type_inv c.copyable.type_inv
     ∙ ap₂ (λ (x y : ℕ). record { plain = x; copyable = y }) c.plain.ensures c.copyable.ensures in
     record { word = e; nested = subst (λ (t : Tickets). bit_or t.plain t.copyable ≡ t.plain) (sym e) s.nested }

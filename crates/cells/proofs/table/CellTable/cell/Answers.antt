@@ -6,20 +6,20 @@ use Rattle.cells.proofs.table.CellTable.cell.Goals as goal
 use Rattle.cells.proofs.table.CellTable.cell.Goals.{After-capacity}
 
 module _ (c : After-capacity) where
-  found : (Some (c.in-ok-row.row * c.capacity.result + c.in-ok-column.column) ≡ cell_of (in_rows c.args.self.now.rows) (size c.args.self.now.rows) c.args.holder c.args.target)
-      × (c.in-ok-row.row * c.capacity.result + c.in-ok-column.column < length c.args.self.now.cells.now)
+  found : (Some (c.in_ok-row.row * c.capacity.result + c.in_ok-column.column) ≡ cell_of (in_rows c.args.self.now.rows) (size c.args.self.now.rows) c.args.holder c.args.target)
+      × (c.in_ok-row.row * c.capacity.result + c.in_ok-column.column < length c.args.self.now.cells.now)
   found =
       found_cell c.args.self.now.rows c.args.self.now.cells.now c.requires c.args.holder c.args.target
-      c.in-ok-row.row c.in-ok-column.column c.capacity.result c.capacity.ensures c.in-ok-row.ensures c.in-ok-column.ensures
+      c.in_ok-row.row c.in_ok-column.column c.capacity.result c.capacity.ensures c.in_ok-row.ensures c.in_ok-column.ensures
 
   few : length c.args.self.now.cells.now < 1000000
   few = small c.args.self.now.rows c.args.self.now.cells.now c.requires
 
-pub overflow-mul-result : goal.overflow-mul-result
-overflow-mul-result c = omega (arith, (found c).1, few c)
+pub overflow_mul-result : goal.overflow_mul-result
+overflow_mul-result c = omega (arith, (found c).1, few c)
 
-pub overflow-add-result : goal.overflow-add-result
-overflow-add-result c = omega (arith, (found c).1, few c)
+pub overflow_add-result : goal.overflow_add-result
+overflow_add-result c = omega (arith, (found c).1, few c)
 
 pub returns : goal.returns
 returns c = record { cell = (found c).0; within = (found c).1 }

@@ -5,31 +5,31 @@ use Rattle.model.specs.State.{filled}
 use Rattle.cells.specs.Layout.{meant}
 use Rattle.cells.proofs.Counts.{used_le, filled_le}
 use Rattle.cells.proofs.table.CellTableHoldingsMut.has_pairs.Goals as goal
-use Rattle.cells.proofs.table.CellTableHoldingsMut.has_pairs.Goals.{After-pairs-of}
+use Rattle.cells.proofs.table.CellTableHoldingsMut.has_pairs.Goals.{After-pairs_of}
 
 -- how many pairs there are, and how many those that stand make
-module _ (c : After-pairs-of) where
-  all_pairs : c.pairs-of-pairs.result ≡ size c.args.self.now.rows * size c.args.self.now.rows
-  all_pairs = c.pairs-of-pairs.ensures ∙ ap (λ (n : ℕ). n * n) c.capacity.ensures
+module _ (c : After-pairs_of) where
+  all_pairs : c.pairs_of-pairs.result ≡ size c.args.self.now.rows * size c.args.self.now.rows
+  all_pairs = c.pairs_of-pairs.ensures ∙ ap (λ (n : ℕ). n * n) c.capacity.ensures
 
-  used_pairs : c.pairs-of.result ≡ length (in_rows c.args.self.now.rows) * length (in_rows c.args.self.now.rows)
-  used_pairs = c.pairs-of.ensures ∙ ap (λ (n : ℕ). n * n) c.standing.ensures
+  used_pairs : c.pairs_of.result ≡ length (in_rows c.args.self.now.rows) * length (in_rows c.args.self.now.rows)
+  used_pairs = c.pairs_of.ensures ∙ ap (λ (n : ℕ). n * n) c.standing.ensures
 
-  used_within : c.pairs-of.result ≤ c.pairs-of-pairs.result
+  used_within : c.pairs_of.result ≤ c.pairs_of-pairs.result
   used_within = omega (arith, all_pairs, used_pairs, used_le c.args.self.now.rows c.args.self.now.cells.now c.requires)
 
-  filled_within : filled (meant (roll c.args.self.now.rows) (size c.args.self.now.rows) c.args.self.now.cells.now) ≤ c.pairs-of.result
+  filled_within : filled (meant (roll c.args.self.now.rows) (size c.args.self.now.rows) c.args.self.now.cells.now) ≤ c.pairs_of.result
   filled_within = omega (arith, used_pairs, filled_le c.args.self.now.rows c.args.self.now.cells.now c.requires)
 
-pub overflow-sub-pairs : goal.overflow-sub-pairs
-overflow-sub-pairs c = used_within c
+pub overflow_sub-pairs : goal.overflow_sub-pairs
+overflow_sub-pairs c = used_within c
 
-pub overflow-sub-result : goal.overflow-sub-result
-overflow-sub-result c = omega (arith, c.filled-pairs.ensures.value, used_within (goal.at.overflow-sub-result c).After-pairs-of, filled_within (goal.at.overflow-sub-result c).After-pairs-of)
+pub overflow_sub-result : goal.overflow_sub-result
+overflow_sub-result c = omega (arith, c.filled_pairs.ensures.value, used_within (goal.at.overflow_sub-result c).After-pairs_of, filled_within (goal.at.overflow_sub-result c).After-pairs_of)
 
 pub returns-then-more-pairs : goal.returns-then-more-pairs
 returns-then-more-pairs c =
-    let d = (goal.at.returns-then-more-pairs c).After-pairs-of in
+    let d = (goal.at.returns-then-more-pairs c).After-pairs_of in
     record {
       same = refl;
       answer = le-leb c.args.more _ c.if-more-pairs.true

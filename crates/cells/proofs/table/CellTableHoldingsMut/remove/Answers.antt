@@ -16,11 +16,11 @@ returns-in-Some c =
       state = removed_state t.rows c.remove_at.new.self t.cells.now c.squeeze.new.cells c.args.number c.in-Some.place c.requires at e.order e.kept e.next e.left c.squeeze.auto.cells q;
     }
 
-pub returns-in-default : goal.returns-in-default
-returns-in-default c =
+pub returns-in_default : goal.returns-in_default
+returns-in_default c =
     let t = c.args.self.now in
     record {
       ok = c.requires;
       room = refl;
-      state = removed_none (roll t.rows) (size t.rows) t.cells.now c.args.number (sym c.in-default.ensures);
+      state = removed_none (roll t.rows) (size t.rows) t.cells.now c.args.number (sym c.in_default.ensures);
     }

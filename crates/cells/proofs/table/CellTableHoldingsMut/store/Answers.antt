@@ -3,13 +3,13 @@ use Rattle.model.specs.Tickets.{tickets_of}
 use Rattle.cells.proofs.Stores.{no_cell, stored_answer, stored_state, stored_laid}
 use Rattle.cells.proofs.table.CellTableHoldingsMut.store.Goals as goal
 
-pub returns-in-default : goal.returns-in-default
-returns-in-default c =
+pub returns-in_default : goal.returns-in_default
+returns-in_default c =
     let t = c.args.self.now in
     record {
       ok = c.requires;
       room = refl;
-      answer = no_cell t.rows t.cells.now c.requires c.args.holder c.args.target (tickets_of c.args.set) c.in-default.ensures.cell;
+      answer = no_cell t.rows t.cells.now c.requires c.args.holder c.args.target (tickets_of c.args.set) c.in_default.ensures.cell;
       state = refl;
     }
 
