@@ -11,11 +11,11 @@ returns g c =
     let h = c.args.holdings.now in
     let st = g.H.Holdings.meaning h in
     let v = c.args.birth in
-    let e = c.share-pairs-first.ensures in
-    let own : c.pairs-beside.result ≡ takes (tickets_of v.own) = c.pairs-beside.ensures ∙ ap (λ (s : Tickets). takes_beside s (tickets_of v.own)) c.none.ensures in
+    let e = c.share_pairs-first.ensures in
+    let own : c.pairs_beside.result ≡ takes (tickets_of v.own) = c.pairs_beside.ensures ∙ ap (λ (s : Tickets). takes_beside s (tickets_of v.own)) c.none.ensures in
     let second : (c.match-birth.holdings ≡ h) × (c.match-birth.second ≡ other_pairs st.tickets v.second) = elim c.match-birth.branch [
       | in-Some w ↦
-          let f = w.share-pairs-second.ensures in (
+          let f = w.share_pairs-second.ensures in (
             w.holdings-is ∙ f.same ∙ e.same,
             w.second-is ∙ f.value ∙ ap (λ z. share_pairs (g.H.Holdings.meaning z).tickets w.in-Some.share) e.same ∙ ap (other_pairs st.tickets) (sym w.in-Some.is),
           )

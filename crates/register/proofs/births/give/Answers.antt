@@ -12,7 +12,7 @@ returns g c =
     let a = c.args.holder in
     let y = c.args.target in
     let s = tickets_of c.args.set in
-    let e = c.gain-set.ensures in
+    let e = c.gain_set.ensures in
     let done = e.answer
     ∙ gain_stored (g.H.HoldingsMut.room h) st (g.H.Holdings.orderly h c.requires.ok).rising a y s c.requires.holder c.requires.target c.requires.fits in
     record {

@@ -4,10 +4,10 @@ use Rattle.model.specs.State.{State, Room, standing, gain, holding, filled}
 use Rattle.register.specs.Births.{give_share, give_other}
 use Rattle.register.proofs.Shares.{first_fits, other_fits}
 use Rattle.register.proofs.births.give_birth.Goals as goal
-use Rattle.register.proofs.births.give_birth.Goals.{in-Some, in-default}
+use Rattle.register.proofs.births.give_birth.Goals.{in-Some, in_default}
 
-pub give-share-requires : goal.give-share-requires
-give-share-requires g c =
+pub give_share-requires : goal.give_share-requires
+give_share-requires g c =
     let h = c.args.holdings.now in
     let st = g.H.Holdings.meaning h in
     record {
@@ -17,8 +17,8 @@ give-share-requires g c =
       fits = first_fits st (g.H.Holdings.orderly h c.requires.ok).rising c.args.child c.requires.child st.tickets c.args.birth c.requires.second (g.H.HoldingsMut.room h).pairs c.requires.fits;
     }
 
-pub give-share-requires-in-Some : goal.give-share-requires-in-Some
-give-share-requires-in-Some g c =
+pub give_share-requires-in-Some : goal.give_share-requires-in-Some
+give_share-requires-in-Some g c =
     let h = c.args.holdings.now in
     let st = g.H.Holdings.meaning h in
     let n = c.args.child in
@@ -47,16 +47,16 @@ give-requires g c =
     let given : g.H.Holdings.ok m × (g.H.Holdings.meaning m ≡ holding st (give_other u c.args.birth.second n)) × (g.H.HoldingsMut.room m ≡ g.H.HoldingsMut.room h) =
     elim c.match-birth.branch [
       | in-Some w ↦
-          let f = w.give-share-in-Some.ensures in
+          let f = w.give_share-in-Some.ensures in
           let s = w.in-Some.share in (
             subst g.H.Holdings.ok (sym w.holdings-is) f.ok,
             ap g.H.Holdings.meaning w.holdings-is ∙ f.state ∙ ap (λ (z : State). holding z (give_share z.tickets s n)) e.state
                 ∙ ap (λ o. holding st (give_other u o n)) (sym w.in-Some.is),
             ap g.H.HoldingsMut.room w.holdings-is ∙ f.room ∙ e.room,
           )
-      | in-default w ↦ (
+      | in_default w ↦ (
         subst g.H.Holdings.ok (sym w.holdings-is) e.ok,
-        ap g.H.Holdings.meaning w.holdings-is ∙ e.state ∙ ap (λ o. holding st (give_other u o n)) (sym w.in-default.is),
+        ap g.H.Holdings.meaning w.holdings-is ∙ e.state ∙ ap (λ o. holding st (give_other u o n)) (sym w.in_default.is),
         ap g.H.HoldingsMut.room w.holdings-is ∙ e.room,
       )
     ] in

@@ -10,8 +10,8 @@ use Rattle.register.proofs.Fronts.{front_refused, front_unchanged, gain_answer, 
 use Rattle.register.proofs.CopyChecks.{links, copy_front, lowest_in, taker_stands, links_refused, links_passed, link_is}
 use Rattle.register.proofs.copies.copy.Goals as goal
 
-pub returns-in-err-kinds : goal.returns-in-err-kinds
-returns-in-err-kinds g c =
+pub returns-in_err-kinds : goal.returns-in_err-kinds
+returns-in_err-kinds g c =
     let h = c.args.holdings.now in
     let S = g.S.Scheme.meaning c.args.scheme.now in
     let R = g.H.HoldingsMut.room h in
@@ -25,10 +25,10 @@ returns-in-err-kinds g c =
     let reply = unwrap_or (passing_link S st a b y x f) 0 in
     let front = copy_party_checks S st a b y x in
     let rest = check NotCopyable (holds st a y x true) ∷ (links S st a b y x f ++ check PairsTaken (stores R st b y set) ∷ []) in
-    let same = c.in-err-kinds.ensures.same in
-    let no = c.in-err-kinds.ensures.answer in
-    let n = refusal_number c.in-err-kinds.field-0.0 in
-    let out = err_from_is_err_and c.from-residual.result c.from-residual.ensures.1 in
+    let same = c.in_err-kinds.ensures.same in
+    let no = c.in_err-kinds.ensures.answer in
+    let n = refusal_number c.in_err-kinds.field-0.0 in
+    let out = err_from_is_err_and c.from_residual.result c.from_residual.ensures.1 in
     let state = ap g.H.Holdings.meaning same ∙ front_unchanged front rest reply n no (stored st b y set) st in
     record {
       ok = subst g.H.Holdings.ok (sym same) c.requires;
@@ -37,8 +37,8 @@ returns-in-err-kinds g c =
       state = state;
     }
 
-pub returns-in-err-link : goal.returns-in-err-link
-returns-in-err-link g c =
+pub returns-in_err-link : goal.returns-in_err-link
+returns-in_err-link g c =
     let h = c.args.holdings.now in
     let S = g.S.Scheme.meaning c.args.scheme.now in
     let R = g.H.HoldingsMut.room h in
@@ -50,19 +50,19 @@ returns-in-err-link g c =
     let f = c.args.ticket.copy in
     let set = gained st b y x f in
     let reply = unwrap_or (passing_link S st a b y x f) 0 in
-    let p = c.in-ok-kinds.ensures.answer in
-    let k = c.in-ok-kinds.ensures.kinds in
-    let asked = c.in-ok-kinds.ensures.same in
+    let p = c.in_ok-kinds.ensures.answer in
+    let k = c.in_ok-kinds.ensures.kinds in
+    let asked = c.in_ok-kinds.ensures.same in
     let read = c.tickets.ensures.same ∙ asked in
     let same = c.sight-seen.ensures.same ∙ read in
     let flag : holds st a y x true ≡ true =
     ap (λ s. has s x true) (sym (c.tickets.ensures.value ∙ ap (λ z. (g.H.Holdings.meaning z).tickets a y) asked)) ∙ sym c.has.ensures ∙ c.if-not-has.false in
     let seen = c.sight-seen.ensures.value ∙ ap (λ z. sight S (g.H.Holdings.meaning z) a b) read in
-    let low = lowest_in S st a b y x f c.sight-seen.result c.in-ok-kinds.kinds.giver c.in-ok-kinds.kinds.taker c.in-ok-kinds.kinds.target seen k.0 k.1 k.2 in
-    let n = refusal_number c.in-err-link.field-0.0 in
-    let no = links_refused S st a b y x f p flag n (c.in-err-link.ensures ∙ low) in
+    let low = lowest_in S st a b y x f c.sight-seen.result c.in_ok-kinds.kinds.giver c.in_ok-kinds.kinds.taker c.in_ok-kinds.kinds.target seen k.0 k.1 k.2 in
+    let n = refusal_number c.in_err-link.field-0.0 in
+    let no = links_refused S st a b y x f p flag n (c.in_err-link.ensures ∙ low) in
     let rest = check PairsTaken (stores R st b y set) ∷ [] in
-    let out = err_from_is_err_and c.from-residual-in-err-link.result c.from-residual-in-err-link.ensures.1 in
+    let out = err_from_is_err_and c.from_residual-in_err-link.result c.from_residual-in_err-link.ensures.1 in
     let state = ap g.H.Holdings.meaning same ∙ front_unchanged (copy_front S st a b y x f) rest reply n no (stored st b y set) st in
     record {
       ok = subst g.H.Holdings.ok (sym same) c.requires;
@@ -71,8 +71,8 @@ returns-in-err-link g c =
       state = state;
     }
 
-pub returns-in-err-gain : goal.returns-in-err-gain
-returns-in-err-gain g c =
+pub returns-in_err-gain : goal.returns-in_err-gain
+returns-in_err-gain g c =
     let h = c.args.holdings.now in
     let S = g.S.Scheme.meaning c.args.scheme.now in
     let R = g.H.HoldingsMut.room h in
@@ -84,26 +84,26 @@ returns-in-err-gain g c =
     let f = c.args.ticket.copy in
     let set = gained st b y x f in
     let reply = unwrap_or (passing_link S st a b y x f) 0 in
-    let p = c.in-ok-kinds.ensures.answer in
-    let k = c.in-ok-kinds.ensures.kinds in
-    let asked = c.in-ok-kinds.ensures.same in
+    let p = c.in_ok-kinds.ensures.answer in
+    let k = c.in_ok-kinds.ensures.kinds in
+    let asked = c.in_ok-kinds.ensures.same in
     let read = c.tickets.ensures.same ∙ asked in
     let same = c.sight-seen.ensures.same ∙ read in
     let flag : holds st a y x true ≡ true =
     ap (λ s. has s x true) (sym (c.tickets.ensures.value ∙ ap (λ z. (g.H.Holdings.meaning z).tickets a y) asked)) ∙ sym c.has.ensures ∙ c.if-not-has.false in
     let seen = c.sight-seen.ensures.value ∙ ap (λ z. sight S (g.H.Holdings.meaning z) a b) read in
-    let low = lowest_in S st a b y x f c.sight-seen.result c.in-ok-kinds.kinds.giver c.in-ok-kinds.kinds.taker c.in-ok-kinds.kinds.target seen k.0 k.1 k.2 in
-    let found = c.in-ok-link.ensures ∙ low in
-    let q = links_passed S st a b y x f p flag c.in-ok-link.link found in
+    let low = lowest_in S st a b y x f c.sight-seen.result c.in_ok-kinds.kinds.giver c.in_ok-kinds.kinds.taker c.in_ok-kinds.kinds.target seen k.0 k.1 k.2 in
+    let found = c.in_ok-link.ensures ∙ low in
+    let q = links_passed S st a b y x f p flag c.in_ok-link.link found in
     let both = taker_stands S st a b y x f p in
     let e = c.gain.ensures in
     let state = gain_state g.H.HoldingsMut.room g.H.Holdings.meaning h c.sight-seen.new.holdings c.gain.new.holdings same
     b y x f (told c.gain.result) e.room e.answer e.state (copy_front S st a b y x f) q both reply in
     let answered = gain_answer g.H.HoldingsMut.room g.H.Holdings.meaning h c.sight-seen.new.holdings c.gain.new.holdings same
     b y x f (told c.gain.result) e.room e.answer e.state (copy_front S st a b y x f) q both reply in
-    let n = refusal_number c.in-err-gain.field-0.0 in
-    let out = err_from_is_err_and c.from-residual-in-err-gain.result c.from-residual-in-err-gain.ensures.1 in
-    let no : refused n ≡ _ = sym (ap told c.in-err-gain.was) ∙ answered in
+    let n = refusal_number c.in_err-gain.field-0.0 in
+    let out = err_from_is_err_and c.from_residual-in_err-gain.result c.from_residual-in_err-gain.ensures.1 in
+    let no : refused n ≡ _ = sym (ap told c.in_err-gain.was) ∙ answered in
     record {
       ok = e.ok;
       room = e.room ∙ ap g.H.HoldingsMut.room same;
@@ -124,27 +124,27 @@ returns g c =
     let f = c.args.ticket.copy in
     let set = gained st b y x f in
     let reply = unwrap_or (passing_link S st a b y x f) 0 in
-    let p = c.in-ok-kinds.ensures.answer in
-    let k = c.in-ok-kinds.ensures.kinds in
-    let asked = c.in-ok-kinds.ensures.same in
+    let p = c.in_ok-kinds.ensures.answer in
+    let k = c.in_ok-kinds.ensures.kinds in
+    let asked = c.in_ok-kinds.ensures.same in
     let read = c.tickets.ensures.same ∙ asked in
     let same = c.sight-seen.ensures.same ∙ read in
     let flag : holds st a y x true ≡ true =
     ap (λ s. has s x true) (sym (c.tickets.ensures.value ∙ ap (λ z. (g.H.Holdings.meaning z).tickets a y) asked)) ∙ sym c.has.ensures ∙ c.if-not-has.false in
     let seen = c.sight-seen.ensures.value ∙ ap (λ z. sight S (g.H.Holdings.meaning z) a b) read in
-    let low = lowest_in S st a b y x f c.sight-seen.result c.in-ok-kinds.kinds.giver c.in-ok-kinds.kinds.taker c.in-ok-kinds.kinds.target seen k.0 k.1 k.2 in
-    let found = c.in-ok-link.ensures ∙ low in
-    let q = links_passed S st a b y x f p flag c.in-ok-link.link found in
+    let low = lowest_in S st a b y x f c.sight-seen.result c.in_ok-kinds.kinds.giver c.in_ok-kinds.kinds.taker c.in_ok-kinds.kinds.target seen k.0 k.1 k.2 in
+    let found = c.in_ok-link.ensures ∙ low in
+    let q = links_passed S st a b y x f p flag c.in_ok-link.link found in
     let both = taker_stands S st a b y x f p in
     let e = c.gain.ensures in
     let state = gain_state g.H.HoldingsMut.room g.H.Holdings.meaning h c.sight-seen.new.holdings c.gain.new.holdings same
     b y x f (told c.gain.result) e.room e.answer e.state (copy_front S st a b y x f) q both reply in
     let answered = gain_answer g.H.HoldingsMut.room g.H.Holdings.meaning h c.sight-seen.new.holdings c.gain.new.holdings same
     b y x f (told c.gain.result) e.room e.answer e.state (copy_front S st a b y x f) q both reply in
-    let yes = sym (ap told c.in-ok-gain.was) ∙ answered in
+    let yes = sym (ap told c.in_ok-gain.was) ∙ answered in
     record {
       ok = e.ok;
       room = e.room ∙ ap g.H.HoldingsMut.room same;
-      answer = ap granted (link_is S st a b y x f c.in-ok-link.link found) ∙ bare_granted (checks S R st (copying a b y x f)) reply yes;
+      answer = ap granted (link_is S st a b y x f c.in_ok-link.link found) ∙ bare_granted (checks S R st (copying a b y x f)) reply yes;
       state = state;
     }

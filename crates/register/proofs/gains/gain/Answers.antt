@@ -14,12 +14,12 @@ returns g c =
     let a = c.args.holder in
     let y = c.args.target in
     let t = c.args.ticket in
-    let e = c.gain-set.ensures in
+    let e = c.gain_set.ensures in
     let one : tickets_of c.of.result ≡ ticket_of t.right t.copy =
     c.of.ensures ∙ cond-true (ltb t.right 16) (ticket_of t.right t.copy) none (lt-ltb t.right 16 c.requires.known) in
     record {
       ok = e.ok;
       room = e.room;
       answer = e.answer ∙ ap (λ s. store_answer R st a y (join (st.tickets a y) s)) one;
-      state = e.state ∙ ap (λ s. after (told c.gain-set.result) (stored st a y (join (st.tickets a y) s)) st) one;
+      state = e.state ∙ ap (λ s. after (told c.gain_set.result) (stored st a y (join (st.tickets a y) s)) st) one;
     }

@@ -8,8 +8,8 @@ use Rattle.model.specs.Calls.{after, check, store_answer, without_right, party_c
 use Rattle.register.proofs.Fronts.{front_refused, front_unchanged, drop_granted, drop_stored}
 use Rattle.register.proofs.takes.drop_ticket.Goals as goal
 
-pub returns-in-err-check-parties : goal.returns-in-err-check-parties
-returns-in-err-check-parties g c =
+pub returns-in_err-check_parties : goal.returns-in_err-check_parties
+returns-in_err-check_parties g c =
     let h = c.args.holdings.now in
     let S = g.S.Scheme.meaning c.args.scheme.now in
     let R = g.H.HoldingsMut.room h in
@@ -19,10 +19,10 @@ returns-in-err-check-parties g c =
     let x = c.args.right in
     let front = party_checks S st a y x in
     let rest = check NotHeld (holds st a y x false) ∷ [] in
-    let same = c.in-err-check-parties.ensures.same in
-    let no = c.in-err-check-parties.ensures.answer in
-    let n = refusal_number c.in-err-check-parties.field-0.0 in
-    let out = err_from_is_err_and c.from-residual.result c.from-residual.ensures.1 in
+    let same = c.in_err-check_parties.ensures.same in
+    let no = c.in_err-check_parties.ensures.answer in
+    let n = refusal_number c.in_err-check_parties.field-0.0 in
+    let out = err_from_is_err_and c.from_residual.result c.from_residual.ensures.1 in
     let state = ap g.H.Holdings.meaning same ∙ front_unchanged front rest 0 n no (stored st a y (without_right (st.tickets a y) x)) st in
     record {
       ok = subst g.H.Holdings.ok (sym same) c.requires;
@@ -40,8 +40,8 @@ returns g c =
     let a = c.args.holder in
     let y = c.args.target in
     let x = c.args.right in
-    let p = c.in-ok-check-parties.ensures.answer in
-    let asked = c.in-ok-check-parties.ensures.same in
+    let p = c.in_ok-check_parties.ensures.answer in
+    let asked = c.in_ok-check_parties.ensures.same in
     let same = c.tickets-held.ensures.same ∙ asked in
     let held : tickets_of c.tickets-held.result ≡ st.tickets a y = c.tickets-held.ensures.value ∙ ap (λ z. (g.H.Holdings.meaning z).tickets a y) asked in
     let has_it : holds st a y x false ≡ true = ap (λ s. has s x false) (sym held) ∙ sym c.has.ensures ∙ c.if-not-has.false in

@@ -12,7 +12,7 @@ returns g c =
     let st = g.H.Holdings.meaning h in
     let e = c.args.entity in
     let same = c.find.ensures.same in
-    let stands : standing st e ≡ true = ap is_some (sym c.find.ensures.value ∙ c.in-ok-ok-or.ensures.ok-part) in
+    let stands : standing st e ≡ true = ap is_some (sym c.find.ensures.value ∙ c.in_ok-ok_or.ensures.ok_part) in
     record {
       ok = c.remove.ensures.ok;
       room = c.remove.ensures.room ∙ ap g.H.HoldingsMut.room same;

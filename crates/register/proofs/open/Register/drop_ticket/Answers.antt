@@ -11,7 +11,7 @@ returns g c =
     let R = g.H.HoldingsMut.room h in
     let st = g.H.Holdings.meaning h in
     let w = g.S.Scheme.lawful c.args.self.now.scheme in
-    let e = c.drop-ticket.ensures in
+    let e = c.drop_ticket.ensures in
     record {
       kept = call_kept S R st _ e.ok w c.requires.sound (dropping c.args.holder c.args.target c.args.right) _ e.state;
       scheme = refl;
