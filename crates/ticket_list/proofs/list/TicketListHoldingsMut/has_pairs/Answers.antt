@@ -4,8 +4,8 @@ use Rattle.ticket_list.proofs.Counts.{beside}
 use Rattle.ticket_list.proofs.Changes.{filled_is, listed_within}
 use Rattle.ticket_list.proofs.list.TicketListHoldingsMut.has_pairs.Goals as goal
 
-pub overflow-sub-result : goal.overflow-sub-result
-overflow-sub-result c = omega (arith, c.len.ensures, c.capacity.ensures, listed_within c.args.self.now.rows c.args.self.now.pairs c.requires)
+pub overflow_sub-result : goal.overflow_sub-result
+overflow_sub-result c = omega (arith, c.len.ensures, c.capacity.ensures, listed_within c.args.self.now.rows c.args.self.now.pairs c.requires)
 
 pub returns : goal.returns
 returns c =

@@ -13,7 +13,7 @@ returns-in-Some c =
       state = removed_state t.rows c.remove_at.new.self t.pairs c.retain.new.self c.args.number c.in-Some.place c.requires (sym c.in-Some.ensures) e.kept e.order e.next e.left k.kept k.order k.listed;
     }
 
-pub returns-in-default : goal.returns-in-default
-returns-in-default c =
+pub returns-in_default : goal.returns-in_default
+returns-in_default c =
     let t = c.args.self.now in
-    record { ok = c.requires; room = refl; state = removed_none t.rows t.pairs c.requires c.args.number (sym c.in-default.ensures) }
+    record { ok = c.requires; room = refl; state = removed_none t.rows t.pairs c.requires c.args.number (sym c.in_default.ensures) }

@@ -6,14 +6,14 @@ use Rattle.ticket_list.specs.Listing.{held}
 use Rattle.ticket_list.proofs.Changes.{stores_none, stores_some, stores_not, put_kept, put_state, out_kept, out_state, same_kept}
 use Rattle.ticket_list.proofs.list.TicketListHoldingsMut.store.Goals as goal
 
-pub returns-then-is-empty : goal.returns-then-is-empty
-returns-then-is-empty c =
+pub returns-then-is_empty : goal.returns-then-is_empty
+returns-then-is_empty c =
     let t = c.args.self.now in
     let stand_h : is_some (kind_in (in_rows t.rows) c.args.holder) ≡ true =
-    ap is_some (sym c.kind_of.ensures) ∙ c.is-none.ensures ∙ ap not c.if-is-none.false in
+    ap is_some (sym c.kind_of.ensures) ∙ c.is_none.ensures ∙ ap not c.if-is_none.false in
     let stand_y : is_some (kind_in (in_rows t.rows) c.args.target) ≡ true =
-    ap is_some (sym c.kind-of-else-is-none.ensures) ∙ c.is-none-else-is-none.ensures ∙ ap not c.if-is-none-2.false in
-    let none : empty (tickets_of c.args.set) ≡ true = sym c.if-is-empty.ensures in
+    ap is_some (sym c.kind_of-else-is_none.ensures) ∙ c.is_none-else-is_none.ensures ∙ ap not c.if-is_none-2.false in
+    let none : empty (tickets_of c.args.set) ≡ true = sym c.if-is_empty.ensures in
     let e = c.remove.ensures in
     record {
       ok = out_kept t.rows t.pairs c.requires c.args.holder c.args.target stand_h stand_y c.args.set c.remove.new.self e.kept e.order e.listed;
@@ -26,10 +26,10 @@ pub returns-in-Ok : goal.returns-in-Ok
 returns-in-Ok c =
     let t = c.args.self.now in
     let stand_h : is_some (kind_in (in_rows t.rows) c.args.holder) ≡ true =
-    ap is_some (sym c.kind_of.ensures) ∙ c.is-none.ensures ∙ ap not c.if-is-none.false in
+    ap is_some (sym c.kind_of.ensures) ∙ c.is_none.ensures ∙ ap not c.if-is_none.false in
     let stand_y : is_some (kind_in (in_rows t.rows) c.args.target) ≡ true =
-    ap is_some (sym c.kind-of-else-is-none.ensures) ∙ c.is-none-else-is-none.ensures ∙ ap not c.if-is-none-2.false in
-    let some : empty (tickets_of c.args.set) ≡ false = sym c.if-is-empty.ensures in
+    ap is_some (sym c.kind_of-else-is_none.ensures) ∙ c.is_none-else-is_none.ensures ∙ ap not c.if-is_none-2.false in
+    let some : empty (tickets_of c.args.set) ≡ false = sym c.if-is_empty.ensures in
     let e = c.in-Ok.ensures in
     record {
       ok = put_kept t.rows t.pairs c.requires c.args.holder c.args.target stand_h stand_y c.args.set c.put.new.self e.kept e.order some e.listed;
@@ -42,10 +42,10 @@ pub returns-in-Err : goal.returns-in-Err
 returns-in-Err c =
     let t = c.args.self.now in
     let stand_h : is_some (kind_in (in_rows t.rows) c.args.holder) ≡ true =
-    ap is_some (sym c.kind_of.ensures) ∙ c.is-none.ensures ∙ ap not c.if-is-none.false in
+    ap is_some (sym c.kind_of.ensures) ∙ c.is_none.ensures ∙ ap not c.if-is_none.false in
     let stand_y : is_some (kind_in (in_rows t.rows) c.args.target) ≡ true =
-    ap is_some (sym c.kind-of-else-is-none.ensures) ∙ c.is-none-else-is-none.ensures ∙ ap not c.if-is-none-2.false in
-    let some : empty (tickets_of c.args.set) ≡ false = sym c.if-is-empty.ensures in
+    ap is_some (sym c.kind_of-else-is_none.ensures) ∙ c.is_none-else-is_none.ensures ∙ ap not c.if-is_none-2.false in
+    let some : empty (tickets_of c.args.set) ≡ false = sym c.if-is_empty.ensures in
     let e = c.in-Err.ensures in
     record {
       ok = same_kept t.rows t.pairs c.requires c.args.holder c.args.target stand_h stand_y c.args.set c.put.new.self e.kept e.order e.listed;
