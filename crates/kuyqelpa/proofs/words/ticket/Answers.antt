@@ -3,27 +3,27 @@ use Rattle.std.proofs.lemmas.Str.Pattern.{split_parts}
 use Rattle.kuyqelpa.proofs.Saying.{slash, has_number, has_right}
 use Rattle.kuyqelpa.proofs.words.ticket.Goals as goal
 
-pub returns-in-err-target : goal.returns-in-err-target
-returns-in-err-target c = rw c.from-residual.ensures (λ t said. slash said None c.in-err-target.ensures.cases)
+pub returns-in_err-target : goal.returns-in_err-target
+returns-in_err-target c = rw c.from_residual.ensures (λ t said. slash said None c.in_err-target.ensures.cases)
 
-pub returns-in-err-target-2 : goal.returns-in-err-target-2
-returns-in-err-target-2 c =
-    let cut = c.in-ok-target.ensures.cases in
-    rw c.from-residual-in-err-target-2.ensures (λ t said. has_number said (c.in-ok-target.target, c.in-ok-target.rest) cut c.in-err-target-2.ensures)
+pub returns-in_err-target-2 : goal.returns-in_err-target-2
+returns-in_err-target-2 c =
+    let cut = c.in_ok-target.ensures.cases in
+    rw c.from_residual-in_err-target-2.ensures (λ t said. has_number said (c.in_ok-target.target, c.in_ok-target.rest) cut c.in_err-target-2.ensures)
 
-pub returns-in-err-right : goal.returns-in-err-right
-returns-in-err-right c =
-    let cut = c.in-ok-target.ensures.cases in
-    rw c.from-residual-in-err-right.ensures
-    (λ t said. has_right said (c.in-ok-target.target, c.in-ok-target.rest) cut _ _ c.flagged-copy.ensures.whole c.flagged-copy.ensures.cut c.in-err-right.ensures)
+pub returns-in_err-right : goal.returns-in_err-right
+returns-in_err-right c =
+    let cut = c.in_ok-target.ensures.cases in
+    rw c.from_residual-in_err-right.ensures
+    (λ t said. has_right said (c.in_ok-target.target, c.in_ok-target.rest) cut _ _ c.flagged-copy.ensures.whole c.flagged-copy.ensures.cut c.in_err-right.ensures)
 
 pub returns : goal.returns
 returns c =
-    let cut = c.in-ok-target.ensures.cases in
+    let cut = c.in_ok-target.ensures.cases in
     record {
-      number = c.in-ok-target.target.now;
+      number = c.in_ok-target.target.now;
       right = c.flagged-copy.result.0.now;
-      parts = (split_parts 47 c.args.word.now (Some (c.in-ok-target.target, c.in-ok-target.rest)) cut (lit< tt)).0 ∙ ap (λ rest. c.in-ok-target.target.now ++ (47 ∷ rest)) c.flagged-copy.ensures.whole;
-      target = sym c.in-ok-target-2.ensures;
-      right_is = sym c.in-ok-right.ensures;
+      parts = (split_parts 47 c.args.word.now (Some (c.in_ok-target.target, c.in_ok-target.rest)) cut (lit< tt)).0 ∙ ap (λ rest. c.in_ok-target.target.now ++ (47 ∷ rest)) c.flagged-copy.ensures.whole;
+      target = sym c.in_ok-target-2.ensures;
+      right_is = sym c.in_ok-right.ensures;
     }

@@ -32,10 +32,10 @@ other S R st (command.Retire y) o = absurd (o.not_retire y refl)
 other S R st (command.Ask a t) o = absurd (o.not_ask a t refl)
 other S R st command.Show o = absurd (o.not_show refl)
 
-pub returns-in-default : goal.returns-in-default
-returns-in-default g c =
+pub returns-in_default : goal.returns-in_default
+returns-in_default g c =
     let s = c.args.self.now in
-    let is = c.in-default in
+    let is = c.in_default in
     let same =
     other (g.S.Scheme.meaning s.scheme) (g.H.HoldingsMut.room s.holdings) (g.H.Holdings.meaning s.holdings) c.args.command
     (record {
@@ -48,4 +48,4 @@ returns-in-default g c =
       not_show = is.not-Show;
     })
     in
-    record { ok = c.requires; says = c.start-over.ensures ∙ same.0; leaves = (same.1, refl, refl) }
+    record { ok = c.requires; says = c.start_over.ensures ∙ same.0; leaves = (same.1, refl, refl) }
