@@ -3,7 +3,7 @@ use Rattle.scheme_records.specs.declared.record.Record.{Record}
 use Rattle.scheme_records.specs.Listed.{count}
 use Rattle.scheme_records.proofs.Listing.{records_none, count_none, count_other, count_one}
 use Rattle.scheme_records.proofs.records.Records.count.Goals as goal
-use Rattle.scheme_records.proofs.records.Records.count.Goals.{in-Some+then-wants, in-Some+else-wants, in-default}
+use Rattle.scheme_records.proofs.records.Records.count.Goals.{in-Some+then-wants, in-Some+else-wants, in_default}
 
 pub loop-place-preserved : goal.loop-place-preserved
 loop-place-preserved g c =
@@ -16,7 +16,7 @@ loop-place-preserved g c =
       | in-Some+else-wants w ↦
           let e = count_other wanted file c.loop-place.place _ w.in-Some.ensures w.if-wants.ensures in
           (omega (arith, w.n-is, e), omega (arith, w.n-is))
-      | in-default w ↦ let e = count_none wanted file c.loop-place.place w.in-default.ensures in (omega (arith, w.n-is, e), omega (arith, w.n-is))
+      | in_default w ↦ let e = count_none wanted file c.loop-place.place w.in_default.ensures in (omega (arith, w.n-is, e), omega (arith, w.n-is))
     ]
 
 pub loop-place-init : goal.loop-place-init

@@ -6,5 +6,5 @@ use Rattle.scheme_records.proofs.records.Records.filter.Goals as goal
 
 pub returns : goal.returns
 returns c =
-    c.set-found.ensures ∙ ap set_found c.find.ensures
+    c.set_found.ensures ∙ ap set_found c.find.ensures
     ∙ looked_first (filter_for c.args.link c.args.giver c.args.taker c.args.target) (listed c.args.self)

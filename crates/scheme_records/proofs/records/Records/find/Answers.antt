@@ -3,7 +3,7 @@ use Rattle.scheme_records.specs.declared.record.Record.{Record}
 use Rattle.scheme_records.specs.Listed.{first_of}
 use Rattle.scheme_records.proofs.Listing.{records_none, passed_none, passed_other, found_here, found_lasts}
 use Rattle.scheme_records.proofs.records.Records.find.Goals as goal
-use Rattle.scheme_records.proofs.records.Records.find.Goals.{in-Some+else-wants, in-default}
+use Rattle.scheme_records.proofs.records.Records.find.Goals.{in-Some+else-wants, in_default}
 
 pub returns-then-wants : goal.returns-then-wants
 returns-then-wants g c =
@@ -12,7 +12,7 @@ returns-then-wants g c =
 pub loop-place-preserved : goal.loop-place-preserved
 loop-place-preserved g c = elim c.match-at.branch [
   | in-Some+else-wants w ↦ passed_other _ _ _ _ w.in-Some.ensures w.if-wants.ensures c.loop-place.invariant
-  | in-default w ↦ passed_none _ _ _ w.in-default.ensures c.loop-place.invariant
+  | in_default w ↦ passed_none _ _ _ w.in_default.ensures c.loop-place.invariant
 ]
 
 pub loop-place-init : goal.loop-place-init

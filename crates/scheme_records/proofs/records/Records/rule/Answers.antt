@@ -7,7 +7,7 @@ use Rattle.scheme_records.specs.Said.{rules_of}
 use Rattle.scheme_records.proofs.Listing.{records_none}
 use Rattle.scheme_records.proofs.Saying.{rule_here, rule_lasts, rule_passed, other_passed, none_passed}
 use Rattle.scheme_records.proofs.records.Records.rule.Goals as goal
-use Rattle.scheme_records.proofs.records.Records.rule.Goals.{in-Some+then-tag-eq6+else-left-eq0, in-Some+else-tag-eq6, in-default}
+use Rattle.scheme_records.proofs.records.Records.rule.Goals.{in-Some+then-tag-eq6+else-left-eq0, in-Some+else-tag-eq6, in_default}
 
 pub returns-then-left-eq0 : goal.returns-then-left-eq0
 returns-then-left-eq0 c =
@@ -29,7 +29,7 @@ loop-place-preserved c =
           omega (arith, w.left-is, rule_passed file p w.in-Some.found w.in-Some.ensures (sym w.tag.ensures ∙ w.if-tag-eq6.true), w.if-left-eq0.false)
       | in-Some+else-tag-eq6 w ↦
           omega (arith, w.left-is, other_passed file p w.in-Some.found w.in-Some.ensures (λ e. w.if-tag-eq6.false (w.tag.ensures ∙ e)))
-      | in-default w ↦ omega (arith, w.left-is, none_passed file p w.in-default.ensures)
+      | in_default w ↦ omega (arith, w.left-is, none_passed file p w.in_default.ensures)
     ]
 
 pub loop-place-init : goal.loop-place-init
