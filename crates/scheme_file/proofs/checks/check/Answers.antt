@@ -13,16 +13,16 @@ returns-then-file-ne0 c =
     let e = length_fails c.args.file.now off in
     record { fault = e; first = judged (file_tests c.args.file.now) _ e }
 
-pub returns-in-err-check-blocks : goal.returns-in-err-check-blocks
-returns-in-err-check-blocks c =
+pub returns-in_err-check_blocks : goal.returns-in_err-check_blocks
+returns-in_err-check_blocks c =
     let on : length_passes c.args.file.now ≡ true = grind (arith, nat_tests) in
-    let p = err_from_is_err_and c.from-residual.result c.from-residual.ensures.1 in
-    let e : told numbers c.from-residual.result ≡ fault_of c.args.file.now =
-    rw (p.1, p.2) (blocks_decide c.args.file.now _ _ on refl c.in-err-check-blocks.ensures) in
+    let p = err_from_is_err_and c.from_residual.result c.from_residual.ensures.1 in
+    let e : told numbers c.from_residual.result ≡ fault_of c.args.file.now =
+    rw (p.1, p.2) (blocks_decide c.args.file.now _ _ on refl c.in_err-check_blocks.ensures) in
     record { fault = e; first = judged (file_tests c.args.file.now) _ e }
 
 pub returns : goal.returns
 returns c =
     let on : length_passes c.args.file.now ≡ true = grind (arith, nat_tests) in
-    let e = blocks_decide c.args.file.now _ _ on refl c.in-ok-check-blocks.ensures in
+    let e = blocks_decide c.args.file.now _ _ on refl c.in_ok-check_blocks.ensures in
     record { fault = e; first = judged (file_tests c.args.file.now) _ e }

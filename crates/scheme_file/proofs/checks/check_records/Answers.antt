@@ -6,13 +6,13 @@ use Rattle.scheme_file.specs.Checks.{record_tests}
 use Rattle.scheme_file.proofs.Firsts.{turn_passes, turn_decides}
 use Rattle.scheme_file.proofs.checks.check_records.Goals as goal
 
-pub returns-in-err-check-record : goal.returns-in-err-check-record
-returns-in-err-check-record c =
-    let p = err_from_is_err_and c.from-residual.result c.from-residual.ensures.1 in
-    rw (p.1, p.2) (sym (turn_decides (record_tests c.args.file.now c.args.block) _ _ _ c.loop-number-test.true c.loop-number.invariant (sym c.in-err-check-record.ensures)))
+pub returns-in_err-check_record : goal.returns-in_err-check_record
+returns-in_err-check_record c =
+    let p = err_from_is_err_and c.from_residual.result c.from_residual.ensures.1 in
+    rw (p.1, p.2) (sym (turn_decides (record_tests c.args.file.now c.args.block) _ _ _ c.loop-number-test.true c.loop-number.invariant (sym c.in_err-check_record.ensures)))
 
 pub loop-number-preserved : goal.loop-number-preserved
-loop-number-preserved c = turn_passes (record_tests c.args.file.now c.args.block) _ c.loop-number.invariant (sym c.in-ok-check-record.ensures)
+loop-number-preserved c = turn_passes (record_tests c.args.file.now c.args.block) _ c.loop-number.invariant (sym c.in_ok-check_record.ensures)
 
 pub loop-number-init : goal.loop-number-init
 loop-number-init c = refl

@@ -2,10 +2,10 @@ use Rattle.std.proofs.Common.{rules}
 use Rattle.scheme_file.specs.Checks.{field_passes}
 use Rattle.scheme_file.proofs.fit.field_passes.Goals as goal
 
-pub returns-then-fields-fit : goal.returns-then-fields-fit
+pub returns-then-fields_fit : goal.returns-then-fields_fit
 unfolding field_passes
-returns-then-fields-fit c = search rules
+returns-then-fields_fit c = search rules
 
-pub returns-else-fields-fit : goal.returns-else-fields-fit
+pub returns-else-fields_fit : goal.returns-else-fields_fit
 unfolding field_passes
-returns-else-fields-fit c = search rules
+returns-else-fields_fit c = search rules

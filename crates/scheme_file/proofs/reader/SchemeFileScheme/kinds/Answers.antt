@@ -4,7 +4,7 @@ use Rattle.scheme_records.specs.Said.{said}
 use Rattle.scheme_file.specs.Lawful.{file_well_formed}
 use Rattle.scheme_file.proofs.reader.SchemeFileScheme.kinds.Goals as goal
 
-pub overflow-cast-result : goal.overflow-cast-result
-overflow-cast-result c =
+pub overflow_cast-result : goal.overflow_cast-result
+overflow_cast-result c =
     let e = c.kinds.ensures ∙ ap (λ (rs : List Record). (said rs).kinds) c.records.ensures in
     omega (arith, e, (file_well_formed c.args.self.now.bytes.now c.args.self.now.sound).few_kinds)

@@ -11,14 +11,14 @@ part-requires c =
     let file = c.args.self.now.bytes.now in
     first_nested (file_scheme file) (file_well_formed file c.args.self.now.sound) c.args.number
     c.in-Rule.first c.in-Rule.second c.in-Rule.child c.in-Rule.sets
-    (ap rule_of (sym c.in-Rule.is) ∙ c.in-ok-found.ensures ∙ ap (λ (rs : List Record). slice_get (rules_of rs) c.args.number) c.records.ensures)
+    (ap rule_of (sym c.in-Rule.is) ∙ c.in_ok-found.ensures ∙ ap (λ (rs : List Record). slice_get (rules_of rs) c.args.number) c.records.ensures)
 
 pub part-requires-in-Some : goal.part-requires-in-Some
 part-requires-in-Some c =
     let file = c.args.self.now.bytes.now in
     second_nested (file_scheme file) (file_well_formed file c.args.self.now.sound) c.args.number
     c.in-Rule.first c.in-Rule.second c.in-Rule.child c.in-Rule.sets
-    (ap rule_of (sym c.in-Rule.is) ∙ c.in-ok-found.ensures ∙ ap (λ (rs : List Record). slice_get (rules_of rs) c.args.number) c.records.ensures)
+    (ap rule_of (sym c.in-Rule.is) ∙ c.in_ok-found.ensures ∙ ap (λ (rs : List Record). slice_get (rules_of rs) c.args.number) c.records.ensures)
     c.in-Some.kind c.in-Some.is
 
 pub tickets-requires : goal.tickets-requires
@@ -26,4 +26,4 @@ tickets-requires c =
     let file = c.args.self.now.bytes.now in
     own_nested (file_scheme file) (file_well_formed file c.args.self.now.sound) c.args.number
     c.in-Rule.first c.in-Rule.second c.in-Rule.child c.in-Rule.sets
-    (ap rule_of (sym c.in-Rule.is) ∙ c.in-ok-found.ensures ∙ ap (λ (rs : List Record). slice_get (rules_of rs) c.args.number) c.records.ensures)
+    (ap rule_of (sym c.in-Rule.is) ∙ c.in_ok-found.ensures ∙ ap (λ (rs : List Record). slice_get (rules_of rs) c.args.number) c.records.ensures)
