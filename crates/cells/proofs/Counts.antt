@@ -1,6 +1,6 @@
 -- How many pairs can be filled: never all of them while one is empty.
-use Rattle.std.proofs.Common.{◌≡◌, ℕ, suc, ◌+◌, ◌*◌, ◌<◌, ◌≤◌, Bool, true, false, cond, not, ◌&&◌, eqb, leb, List, [], ◌∷◌, length, is_some, sym, ap, ◌∙◌, subst, inl, inr, suc-mul, arith}
-use Rattle.std.proofs.lemmas.Bool.{cases_Bool, cond-false, eqb-true, false≢true, and_left, and_right, not_from_false, lt-leb}
+use Rattle.std.proofs.Common.{◌≡◌, ℕ, suc, ◌+◌, ◌*◌, ◌<◌, ◌≤◌, Bool, true, cond, not, ◌&&◌, eqb, leb, List, [], ◌∷◌, length, is_some, sym, ap, ◌∙◌, subst, inl, inr, suc-mul, arith}
+use Rattle.std.proofs.lemmas.Bool.{cases_Bool, eqb-true, false≢true, and_left, and_right, not_from_false, lt-leb}
 use Rattle.model.specs.declared.tickets.Entity.{Entity}
 use Rattle.model.specs.Tickets.{Tickets, empty}
 use Rattle.holdings.specs.declared.rows.Rows.{Rows}

@@ -1,5 +1,5 @@
 -- Taking a ticket's word apart: there is one way only.
-use Rattle.std.proofs.Common.{◌≡◌, ℕ, ◌<◌, Bool, true, false, List, [], ◌∷◌, ◌++◌, length, Some, None, codes, Option, sym, refl, ap, ◌∙◌, append-nil, arith, lit<, length-append, Bor, MatchOption}
+use Rattle.std.proofs.Common.{◌≡◌, ℕ, Bool, true, false, List, [], ◌∷◌, ◌++◌, length, Some, None, Option, sym, refl, ap, ◌∙◌, append-nil, arith, lit<, length-append, Bor, MatchOption}
 use Rattle.std.proofs.lemmas.Str.Pattern.{IsSplitOnceResult, split_after}
 use Rattle.kuyqelpa.specs.declared.words.TicketFor.{TicketFor}
 use Rattle.kuyqelpa.specs.Numbers.{number_of}

@@ -1,10 +1,10 @@
 -- Rising lists of keys: a key divides them into what is before it, its own entry, and what is after it; and they stay rising.
-use Rattle.std.proofs.Common.{◌≡◌, ℕ, zero, suc, ◌<◌, ◌≤◌, Bool, true, false, cond, not, ◌&&◌, ◌⊎◌, List, [], ◌∷◌, ◌++◌, length, get_or, take, Some, None, filter, Option, sym, refl, ap, ◌∙◌, subst, ap₂, inl, inr, arith}
+use Rattle.std.proofs.Common.{◌≡◌, Bool, true, false, not, ◌⊎◌, List, [], ◌∷◌, ◌++◌, Some, None, filter, sym, refl, ap, ◌∙◌, subst, ap₂, inl, inr}
 use Rattle.std.specs.List.{AllByRecursion as All}
-use Rattle.std.proofs.ByRecursion.{All-weaker, all_kept_by, kept_by_passes, All-get_or}
+use Rattle.std.proofs.ByRecursion.{All-weaker, all_kept_by, kept_by_passes}
 use Rattle.std.proofs.lemmas.Bool.{cases_Bool, cond-true, cond-false, both_ways, and_parts, and_from, and_left, and_right}
 use Rattle.ordered.specs.declared.key.Entry.{Entry}
-use Rattle.ordered.specs.Entries.{Order, same_key, Rising, value_of, entries_before, entries_after, put, take_out, keep}
+use Rattle.ordered.specs.Entries.{Order, same_key, Rising, value_of, entries_before, entries_after, put, take_out}
 
 -- a total order
 pub record Total {K : Type 0} (before : Order K) : Type 0 where

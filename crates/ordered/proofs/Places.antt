@@ -1,9 +1,9 @@
 -- Looking for a key by halves: what a look at the entry in the middle says of the others, and what is found at the end.
-use Rattle.std.proofs.Common.{◌≡◌, ℕ, zero, suc, ◌+◌, ◌-◌, ◌<◌, ◌≤◌, Bool, true, false, cond, ◌⊎◌, List, [], ◌∷◌, ◌++◌, length, get_or, take, drop, set, is_some, Some, None, Ok, Err, filter, Option, Result, sym, refl, ap, ◌∙◌, subst, ap₂, inl, inr, arith}
-use Rattle.std.specs.List.{insert, remove, AllByRecursion as All}
+use Rattle.std.proofs.Common.{◌≡◌, ℕ, zero, suc, ◌+◌, ◌-◌, ◌<◌, ◌≤◌, true, false, List, [], ◌∷◌, ◌++◌, length, get_or, take, drop, set, is_some, Some, None, Ok, Err, Result, sym, refl, ap, ◌∙◌, ap₂, inl, inr, arith}
+use Rattle.std.specs.List.{insert, remove}
 use Rattle.std.proofs.ByRecursion.{All-get_or, kept_by_passes}
-use Rattle.std.proofs.lemmas.List.{length-append, length-take-le, get_or-take, get_or_read, get_or_at, set_at, take_at, drop_at, get_or-append_right}
-use Rattle.std.proofs.lemmas.Bool.{cases_Bool, cases_eq, cases_lt, cond-true, cond-false, both_ways}
+use Rattle.std.proofs.lemmas.List.{length-append, get_or-take, get_or_read, get_or_at, set_at, take_at, drop_at, get_or-append_right}
+use Rattle.std.proofs.lemmas.Bool.{cases_Bool, cases_eq, cond-true, cond-false, both_ways}
 use Rattle.ordered.specs.declared.key.Entry.{Entry}
 use Rattle.ordered.specs.Entries.{Order, Rising, value_of, entries_before, entries_after, put, take_out}
 use Rattle.ordered.specs.Lists.{location}

@@ -1,6 +1,6 @@
 -- What is found under each key once entries were kept, put or taken out.
 use Rattle.std.proofs.Common.{◌≡◌, Bool, true, false, cond, List, [], ◌∷◌, ◌++◌, Some, None, Option, sym, refl, ap, ◌∙◌, ap₂, inl, inr}
-use Rattle.std.proofs.lemmas.Bool.{cases_Bool, cond-true, cond-false, and_from}
+use Rattle.std.proofs.lemmas.Bool.{cases_Bool, cond-true, cond-false}
 use Rattle.ordered.specs.declared.key.Entry.{Entry}
 use Rattle.ordered.specs.Entries.{Order, same_key, value_of, entries_before, entries_after, put, take_out, keep}
 use Rattle.ordered.proofs.Orders.{Total, same_is, not_back, apart, apart_back, same_both}

@@ -1,5 +1,5 @@
 -- Lists of keys with values, in rising order of the keys: what is found, put, taken out and kept.
-use Rattle.std.specs.Prelude.{◌≡◌, ◌≤◌, Bool, true, cond, not, ◌&&◌, List, [], ◌∷◌, ◌++◌, length, take, is_some, Some, None, filter, Option}
+use Rattle.std.specs.Prelude.{◌≡◌, Bool, true, cond, not, ◌&&◌, List, [], ◌∷◌, ◌++◌, Some, None, filter, Option}
 use Rattle.std.specs.List.{AllByRecursion as All}
 use Rattle.ordered.specs.declared.key.Entry.{Entry}
 

@@ -1,5 +1,5 @@
 -- What the words for types, rights and tickets mean.
-use Rattle.std.specs.Prelude.{◌≡◌, ℕ, min, Bool, true, false, cond, List, [], ◌∷◌, ◌++◌, Some, None, codes, Option}
+use Rattle.std.specs.Prelude.{◌≡◌, ℕ, min, Bool, true, false, cond, List, [], ◌++◌, Some, codes, Option}
 use Rattle.std.specs.Str.{bytes_eq as same_text}
 use Rattle.std.specs.Option.{option_map}
 use Rattle.protocol.specs.declared.words.TicketFor.{TicketFor}

@@ -6,7 +6,7 @@ use Rattle.model.specs.declared.rules.Sight.{Sight}
 use Rattle.model.specs.Refusals.{Answer, granted, refused, bare}
 use Rattle.model.specs.Scheme.{Scheme}
 use Rattle.model.specs.State.{State, kind, standing, holds}
-use Rattle.model.specs.Calls.{Check, check, decide, passed, sight, first_link, passing_link}
+use Rattle.model.specs.Calls.{Check, check, passed, sight, first_link, passing_link}
 use Rattle.model.proofs.Checks.{decided, passed_all, decide_passed, bare_decide}
 use Rattle.register.specs.Passing.{copy_party_checks, lowest_answer}
 use Rattle.register.proofs.Fronts.{next_passed}

@@ -1,5 +1,5 @@
 -- How the checks of a creation go on from one to the next, and what is left of it once all are passed.
-use Rattle.std.proofs.Common.{◌≡◌, ℕ, ◌+◌, ◌≤◌, Bool, true, cond, leb, ◌≢◌, List, [], ◌∷◌, ◌++◌, IfSome, Some, None, Option, sym, refl, ap, ◌∙◌, subst, ap₂}
+use Rattle.std.proofs.Common.{◌≡◌, ℕ, ◌+◌, ◌≤◌, Bool, true, cond, leb, ◌≢◌, List, [], ◌∷◌, ◌++◌, IfSome, Some, None, Option, sym, ap, ◌∙◌, subst, ap₂}
 use Rattle.std.proofs.lemmas.Bool.{leb-true}
 use Rattle.model.specs.declared.refusal.Refusal.TheVariants.{PairsTaken}
 use Rattle.model.specs.Refusals.{Answer, granted, refused}

@@ -1,5 +1,5 @@
 -- What entering comes to, once the holdings have answered, and that every entry keeps the standing invariant.
-use Rattle.std.proofs.Common.{◌≡◌, ℕ, ◌<◌, ltb, sym, ap, ◌∙◌, subst}
+use Rattle.std.proofs.Common.{◌≡◌, ℕ, ◌<◌, ltb, sym, ap, subst}
 use Rattle.std.proofs.lemmas.Bool.{cond-true, lt-ltb}
 use Rattle.model.specs.Refusals.{Answer, refused}
 use Rattle.model.specs.Scheme.{Scheme, WellFormed}

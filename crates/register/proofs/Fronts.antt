@@ -1,6 +1,6 @@
 -- Calls whose checks are a front that the code has gone through, and a rest: what a refusal of the front comes to, and that
 -- storing decides the rest.
-use Rattle.std.proofs.Common.{◌≡◌, ℕ, ◌<◌, Bool, true, false, not, ◌&&◌, eqb, ltb, leb, List, [], ◌∷◌, ◌++◌, sym, refl, ap, ◌∙◌, subst, inl, inr, arith}
+use Rattle.std.proofs.Common.{◌≡◌, ℕ, ◌<◌, Bool, true, false, not, ◌&&◌, eqb, leb, List, [], ◌∷◌, ◌++◌, sym, ap, ◌∙◌, subst, inl, inr, arith}
 use Rattle.std.proofs.lemmas.Bool.{cond-true, ltb-true, cases_Bool, both_ways, and_left, eqb-true}
 use Rattle.model.specs.declared.refusal.Refusal.TheVariants.{NotHeld, PairsTaken}
 use Rattle.model.specs.Refusals.{Answer, granted, refused, bare}

@@ -1,6 +1,6 @@
 -- The shares of a birth: what they fill, that there is always a pair for each set while there is one for all, and that one entity
 -- that is both parents has one share.
-use Rattle.std.proofs.Common.{◌≡◌, ℕ, ◌+◌, ◌<◌, ◌≤◌, Bool, true, false, not, ◌&&◌, eqb, leb, ◌≢◌, [], ◌∷◌, is_some, IfSome, Some, None, Option, sym, refl, ap, ◌∙◌, subst, inl, inr, arith}
+use Rattle.std.proofs.Common.{◌≡◌, ℕ, ◌+◌, ◌<◌, ◌≤◌, Bool, true, false, not, ◌&&◌, eqb, leb, ◌≢◌, [], ◌∷◌, is_some, IfSome, Some, None, Option, sym, ap, ◌∙◌, inl, inr, arith}
 use Rattle.std.proofs.lemmas.Bool.{cases_Bool, cond-true, cond-false, ne_eqb, and_left, and_right, not_from_false, leb-true}
 use Rattle.model.specs.declared.refusal.Refusal.TheVariants.{PairsTaken}
 use Rattle.model.specs.Refusals.{granted, refused}

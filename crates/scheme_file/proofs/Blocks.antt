@@ -1,5 +1,5 @@
 -- The first fault of a record, a block and a file, by what each part of the check tells.
-use Rattle.std.proofs.Common.{◌≡◌, ℕ, Bool, true, false, cond, List, [], ◌∷◌, ◌++◌, Some, None, Option, sym, refl, ap, ◌∙◌}
+use Rattle.std.proofs.Common.{◌≡◌, ℕ, Bool, true, false, cond, List, Some, None, Option, sym, ap, ◌∙◌}
 use Rattle.scheme_records.specs.declared.record.Record.{Record}
 use Rattle.scheme_records.specs.Bytes.{block, blocks, record_count, record_slice}
 use Rattle.scheme_records.specs.Decoded.{decoded}

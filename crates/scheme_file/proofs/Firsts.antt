@@ -1,9 +1,9 @@
 -- The first test that fails, over lists of tests one after another.
-use Rattle.std.proofs.Common.{◌≡◌, ℕ, zero, suc, ◌+◌, ◌<◌, ◌≤◌, Bool, true, false, cond, List, [], ◌∷◌, ◌++◌, Some, None, Option, sym, refl, ap, ◌∙◌, subst, inl, inr, add-one, arith}
+use Rattle.std.proofs.Common.{◌≡◌, ℕ, zero, suc, ◌+◌, ◌<◌, ◌≤◌, Bool, true, false, cond, List, [], ◌∷◌, ◌++◌, Some, None, Option, sym, refl, ap, ◌∙◌, subst, inl, inr, arith}
 use Rattle.std.proofs.lemmas.Bool.{cases_lt}
 use Rattle.scheme_records.specs.Listed.{in_turn}
 use Rattle.scheme_records.proofs.Listing.{in_turn_more}
-use Rattle.scheme_file.specs.Faults.{Fault, Test, first_fault, AllPass, FirstFails, Verdict}
+use Rattle.scheme_file.specs.Faults.{Fault, Test, first_fault, Verdict}
 
 pub fault_past : (xs ys : List Test) → first_fault xs ≡ None → first_fault (xs ++ ys) ≡ first_fault ys
 fault_past [] ys h = refl

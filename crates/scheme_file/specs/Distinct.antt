@@ -1,10 +1,9 @@
 -- No two rules of sound records have the same key: each rule's own types find that rule.
-use Rattle.std.specs.Prelude.{◌≡◌, ℕ, zero, suc, ◌+◌, ◌<◌, ◌≤◌, Bool, true, false, cond, ◌&&◌, ◌||◌, ◌⊎◌, List, [], ◌∷◌, ◌++◌, length, is_some, Some, None, Option, ◌==◌, refl}
-use Rattle.std.proofs.Common.{inl, inr, sym, ap, ap₂, subst, ◌∙◌, arith}
+use Rattle.std.specs.Prelude.{◌≡◌, ℕ, zero, suc, ◌+◌, ◌<◌, ◌≤◌, Bool, true, false, cond, ◌&&◌, ◌⊎◌, List, [], ◌∷◌, ◌++◌, length, Some, None, Option, ◌==◌, refl}
+use Rattle.std.proofs.Common.{inl, inr, sym, ap, subst, ◌∙◌, arith}
 use Rattle.std.specs.Option.{option_map, option_to_list}
 use Rattle.std.specs.List.{slice_get}
-use Rattle.std.proofs.lemmas.Option.{slice_get_past}
-use Rattle.std.proofs.lemmas.Bool.{cases_lt, eq-eqb, and_from, and_parts, or_parts, cond-false, both_ways}
+use Rattle.std.proofs.lemmas.Bool.{cases_lt, eq-eqb, and_from, or_parts, cond-false}
 use Rattle.model.specs.Scheme.{Rule as Creation, Part, same_second, is_for, rule_number}
 use Rattle.scheme_records.specs.declared.record.StoredSet.{StoredSet}
 use Rattle.scheme_records.specs.declared.record.RuleSets.{RuleSets}
@@ -13,8 +12,8 @@ use Rattle.scheme_records.specs.declared.record.Record.TheVariants.{Kind, Right,
 use Rattle.scheme_records.specs.Listed.{any}
 use Rattle.scheme_records.specs.Said.{same_parent, rule_for, part_said, creation, rule_of, rules_of, repeats}
 use Rattle.scheme_records.proofs.Listing.{any_first}
-use Rattle.scheme_records.proofs.Saying.{nth_front, nth_last}
-use Rattle.scheme_file.specs.Sound.{Passes, Sound, none, more}
+use Rattle.scheme_records.proofs.Saying.{nth_front}
+use Rattle.scheme_file.specs.Sound.{Sound, none, more}
 use Rattle.scheme_file.specs.Growing.{rules_more}
 
 -- the second parent's type of a rule, if it has one

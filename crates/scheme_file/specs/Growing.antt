@@ -1,6 +1,6 @@
 -- One record more: what was declared stays, and tests that show a scheme well formed still pass.
-use Rattle.std.specs.Prelude.{◌≡◌, ℕ, ◌+◌, ◌^◌, ◌<◌, ◌≤◌, Bool, true, false, ◌&&◌, ◌||◌, List, [], ◌∷◌, ◌++◌, Some, None, Option, nat_lt, refl}
-use Rattle.std.proofs.Common.{append-nil, sym, ap, ◌∙◌, arith, pow_mono}
+use Rattle.std.specs.Prelude.{◌≡◌, ℕ, ◌^◌, ◌<◌, ◌≤◌, Bool, true, ◌&&◌, ◌||◌, List, [], ◌∷◌, ◌++◌, Some, None, Option, nat_lt}
+use Rattle.std.proofs.Common.{append-nil, ap, ◌∙◌, arith, pow_mono}
 use Rattle.std.specs.Option.{option_to_list}
 use Rattle.std.proofs.lemmas.Bool.{ltb-true, lt-ltb, and_parts, and_from, or_left}
 use Rattle.model.specs.Tickets.{Tickets, empty}

@@ -1,13 +1,13 @@
 -- The scheme of a file that passes the check is well formed.
-use Rattle.std.specs.Prelude.{◌≡◌, ℕ, zero, suc, ◌+◌, ◌^◌, ◌<◌, ◌≤◌, Bool, true, false, cond, ◌&&◌, ◌||◌, ◌⊎◌, List, [], ◌∷◌, ◌++◌, is_some, Some, None, Option, ◌==◌, nat_lt, refl}
+use Rattle.std.specs.Prelude.{◌≡◌, ℕ, zero, suc, ◌+◌, ◌^◌, ◌<◌, ◌≤◌, Bool, true, false, cond, ◌&&◌, ◌||◌, List, [], ◌∷◌, ◌++◌, is_some, Some, None, Option, ◌==◌, nat_lt, refl}
 use Rattle.std.proofs.Common.{inl, inr, sym, ap, subst, ◌∙◌, arith}
 use Rattle.std.specs.Int.Bits.{bit_or}
 use Rattle.std.specs.Option.{option_map, option_to_list}
 use Rattle.std.proofs.lemmas.Nat.{pow_pos}
-use Rattle.std.proofs.lemmas.Bool.{eqb-true, eq-eqb, ltb-true, lt-ltb, and_parts, and_from, or_cases, or_left, or_right, both_ways, cases_Bool, cond-true, cond-false}
+use Rattle.std.proofs.lemmas.Bool.{eqb-true, eq-eqb, ltb-true, lt-ltb, and_parts, and_from, or_cases, or_left, both_ways, cases_Bool}
 use Rattle.model.specs.declared.rules.Sight.{Sight}
-use Rattle.model.specs.Tickets.{Tickets, bit, none as nothing}
-use Rattle.model.specs.Scheme.{Scheme, Rule as Creation, Part, Among, SeesMore, Monotone, WellFormed}
+use Rattle.model.specs.Tickets.{bit, none as nothing}
+use Rattle.model.specs.Scheme.{Scheme, Rule as Creation, Among, SeesMore, Monotone, WellFormed}
 use Rattle.model.proofs.Bits.{bit_zero, bit-bit_or, bit_pow, bit_within, same_bits}
 use Rattle.scheme.specs.Lawful.{proper_test, table_test, part_test, second_test, child_test, rules_test, looked_up_proper, child_by, first_by, second_by}
 use Rattle.scheme_records.specs.declared.record.StoredSet.{StoredSet}
@@ -15,9 +15,9 @@ use Rattle.scheme_records.specs.declared.record.RuleSets.{RuleSets}
 use Rattle.scheme_records.specs.declared.record.Record.{Record}
 use Rattle.scheme_records.specs.declared.record.Record.TheVariants.{Kind, Right, Alternative, Filter, Demand, Rule}
 use Rattle.scheme_records.specs.Listed.{records, all_places, any}
-use Rattle.scheme_records.specs.Said.{said, tagged, subject_kind, control_right, of_link, within, all_within, present, filter_for, demand_for, set_said, set_of, part_said, creation, rule_of, rules_of, mask_of, above, links_of, control_of}
+use Rattle.scheme_records.specs.Said.{said, tagged, subject_kind, control_right, of_link, within, present, filter_for, demand_for, set_said, set_of, part_said, creation, rule_of, rules_of, mask_of, above, links_of, control_of}
 use Rattle.scheme_records.proofs.Listing.{any_more, any_weaker, count_more}
-use Rattle.scheme_file.specs.Checks.{set_fits, sets_fit, is_empty, second_fits, nested, fields_fit, sets_nested, object_bare, fault_of}
+use Rattle.scheme_file.specs.Checks.{set_fits, sets_fit, is_empty, second_fits, nested, fault_of}
 use Rattle.scheme_file.specs.Sound.{Passes, Sound, none, more, file_sound}
 use Rattle.scheme_file.specs.Growing.{and_map, grows_more, proper_grows, rules_grow, table_grows, rules_join, table_join, rules_more}
 use Rattle.scheme_file.specs.Distinct.{rules_distinct}

@@ -1,6 +1,6 @@
 -- In a file that passes the check, every record passes its tests against those before it.
-use Rattle.std.specs.Prelude.{◌≡◌, ℕ, zero, suc, ◌+◌, ◌*◌, ◌/◌, ◌%◌, ◌<◌, ◌≤◌, Bool, true, false, cond, not, ◌&&◌, List, [], ◌∷◌, ◌++◌, is_some, Some, None, Option, nat_lt}
-use Rattle.std.proofs.Common.{append-nil, inl, inr, sym, ap, ap₂, ◌∙◌, add-one}
+use Rattle.std.specs.Prelude.{◌≡◌, ℕ, zero, suc, ◌/◌, ◌%◌, ◌<◌, ◌≤◌, Bool, true, false, cond, List, [], ◌∷◌, ◌++◌, is_some, Some, None, Option, nat_lt}
+use Rattle.std.proofs.Common.{append-nil, inl, inr, sym, add-one}
 use Rattle.std.proofs.Math.Path.{refl, subst}
 use native.Mathlib.Omega.{arith}
 use Rattle.std.specs.Option.{option_to_list}
@@ -11,7 +11,7 @@ use Rattle.scheme_records.specs.Decoded.{decoded}
 use Rattle.scheme_records.specs.Listed.{in_turn, place_of, records, record_at, all_places}
 use Rattle.scheme_records.specs.Said.{said, repeats}
 use Rattle.scheme_records.proofs.Listing.{records_more, records_none}
-use Rattle.scheme_file.specs.Faults.{Fault, Test, first_fault, AllPass}
+use Rattle.scheme_file.specs.Faults.{Test, first_fault, AllPass}
 use Rattle.scheme_file.specs.Checks.{fields_fit, unused_zero, sets_nested, object_bare, field_passes, key_passes, copy_passes, gift_passes, tests_of, record_tests, own_tests, block_tests, file_tests, fault_of}
 
 -- what a record's tests say of it, against the records before it

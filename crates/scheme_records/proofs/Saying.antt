@@ -10,7 +10,7 @@ use Rattle.scheme_records.specs.declared.record.Record.{Record}
 use Rattle.scheme_records.specs.declared.record.Record.TheVariants.{Kind, Right, Alternative, Filter, Demand, Rule}
 use Rattle.scheme_records.specs.Listed.{records, record_at, first_of, count}
 use Rattle.scheme_records.specs.Said.{tag_of, tagged, set_of, set_found, rule_of, rules_of, mask_of, above}
-use Rattle.scheme_records.proofs.Listing.{records_more, records_none}
+use Rattle.scheme_records.proofs.Listing.{records_more}
 
 -- a set that is looked up is that of the first record
 pub looked_first : (w : Record → Bool) (rs : List Record) → set_found (first_of w rs) ≡ looked_up w set_of rs

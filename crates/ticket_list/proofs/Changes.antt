@@ -1,17 +1,17 @@
 -- What a ticket list keeps true, and means, where an entity is added or removed and where a pair is stored.
-use Rattle.std.proofs.Common.{◌≡◌, ℕ, suc, ◌+◌, ◌≤◌, Bool, true, false, cond, not, ◌&&◌, ◌||◌, eqb, ltb, leb, List, [], ◌∷◌, ◌++◌, length, take, is_some, Some, None, filter, Option, sym, refl, ap, ◌∙◌, subst, ap₂, inl, inr, arith}
+use Rattle.std.proofs.Common.{◌≡◌, ℕ, ◌≤◌, Bool, true, false, not, ◌&&◌, ◌||◌, eqb, ltb, leb, List, [], ◌∷◌, length, is_some, Some, None, Option, sym, refl, ap, ◌∙◌, subst, ap₂, inl, inr, arith}
 use mathlib.Core.Path.{fun_ext}
 use Rattle.std.specs.List.{AllByRecursion as All}
 use Rattle.std.proofs.ByRecursion.{All-weaker, all_kept_by, kept_by_passes, All-append}
 use Rattle.std.proofs.lemmas.List.{length-take-le}
-use Rattle.std.proofs.lemmas.Bool.{cases_Bool, cond-true, cond-false, cond_both, and_parts, and_from, and_left, and_right, or_cases, or_parts, both_ways, lt-leb, le-leb, lt-ltb, le-ltb, eqb-true, cases_lt}
+use Rattle.std.proofs.lemmas.Bool.{cases_Bool, cond-true, cond-false, cond_both, and_parts, and_from, and_left, and_right, or_cases, both_ways, lt-leb, le-leb, lt-ltb, le-ltb, eqb-true, cases_lt}
 use Rattle.model.specs.declared.tickets.Entity.{Entity}
 use Rattle.model.specs.declared.tickets.TicketSet.{TicketSet}
 use Rattle.model.specs.Refusals.{Answer, granted, refused}
-use Rattle.model.specs.Tickets.{Tickets, tickets_of, none, empty}
+use Rattle.model.specs.Tickets.{tickets_of, none, empty}
 use Rattle.model.specs.State.{State, Table, Room, kind_in, standing, put, without, remove, added, removed, stored, filled, stores, holding}
 use Rattle.model.specs.Calls.{after, store_answer}
-use Rattle.model.proofs.Entities.{some_inside, none_inside, push_old, still_kind}
+use Rattle.model.proofs.Entities.{some_inside, push_old, still_kind}
 use Rattle.model.proofs.Filling.{none_of, empty_by}
 use Rattle.holdings.specs.declared.rows.Rows.{Rows}
 use Rattle.holdings.specs.Rows.{size, in_rows, roll, place_of, remove_at}

@@ -1,13 +1,12 @@
 -- As many pairs are filled as are listed.
-use Rattle.std.proofs.Common.{◌≡◌, ℕ, suc, ◌+◌, ◌-◌, ◌≤◌, Bool, true, false, cond, leb, List, [], ◌∷◌, length, sym, refl, ap, ◌∙◌, ap₂, inl, inr, arith}
+use Rattle.std.proofs.Common.{◌≡◌, ℕ, ◌+◌, ◌-◌, ◌≤◌, leb, List, [], ◌∷◌, length, sym, refl, ap, ◌∙◌, inl, inr, arith}
 use Rattle.std.specs.List.{AllByRecursion as All}
 use Rattle.std.proofs.lemmas.Bool.{cond-false, cases_lt, le-leb, lt-leb}
 use Rattle.model.specs.declared.tickets.Entity.{Entity}
-use Rattle.model.specs.Tickets.{none, tickets_of, empty}
+use Rattle.model.specs.Tickets.{tickets_of, empty}
 use Rattle.model.specs.State.{State, Table, count_targets, count_pairs, filled, put, takes}
 use Rattle.model.specs.Laws.{Rising}
 use Rattle.model.proofs.Filling.{pairs_put}
-use Rattle.ordered.specs.Entries.{value_of}
 use Rattle.ordered.specs.Entries.{Rising as Keys-rise}
 use Rattle.ordered.proofs.Orders.{not_there}
 use Rattle.ticket_list.specs.Pairs.{comes_before}

@@ -1,10 +1,10 @@
 -- What is held once a pair was put or taken out, and once an entity's pairs are gone.
-use Rattle.std.proofs.Common.{◌≡◌, ℕ, Bool, true, false, cond, not, ◌&&◌, ◌||◌, eqb, ltb, List, [], ◌∷◌, Some, None, Option, sym, refl, ap, ◌∙◌, ap₂, inl, inr}
+use Rattle.std.proofs.Common.{◌≡◌, ℕ, Bool, true, false, cond, not, ◌&&◌, ◌||◌, eqb, ◌∷◌, Some, None, Option, sym, refl, ap, ◌∙◌, ap₂, inl, inr}
 use mathlib.Core.Path.{fun_ext}
-use Rattle.std.proofs.lemmas.Bool.{cases_Bool, cond-true, cond-false, and_parts, and_from, eqb-true, eq-eqb, both_ways}
+use Rattle.std.proofs.lemmas.Bool.{cases_Bool, and_parts, and_from, eqb-true, eq-eqb, both_ways}
 use Rattle.model.specs.declared.tickets.TicketSet.{TicketSet}
 use Rattle.model.specs.Tickets.{Tickets, tickets_of, none}
-use Rattle.model.specs.State.{Table, put, without}
+use Rattle.model.specs.State.{put, without}
 use Rattle.ordered.specs.declared.key.Entry.{Entry}
 use Rattle.ordered.specs.Entries.{same_key, value_of, take_out, keep}
 use Rattle.ordered.specs.Entries.{put as put-entry}

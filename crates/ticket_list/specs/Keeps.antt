@@ -1,11 +1,11 @@
 -- What a ticket list keeps true makes its meaning orderly.
-use Rattle.std.specs.Prelude.{◌≡◌, ℕ, Bool, true, false, ◌&&◌, ◌||◌, List, [], ◌∷◌, is_some, Some, None, Option, refl}
+use Rattle.std.specs.Prelude.{◌≡◌, ℕ, Bool, true, false, List, [], ◌∷◌, is_some, Some, None, Option}
 use Rattle.std.proofs.Common.{inl, inr, sym, ap, subst, ◌∙◌}
 use Rattle.std.specs.List.{AllByRecursion as All}
-use Rattle.std.proofs.lemmas.Bool.{cases_Bool, cond-true, cond-false}
+use Rattle.std.proofs.lemmas.Bool.{cases_Bool, cond-false}
 use Rattle.model.specs.declared.tickets.Entity.{Entity}
 use Rattle.model.specs.declared.tickets.TicketSet.{TicketSet}
-use Rattle.model.specs.Tickets.{has, none}
+use Rattle.model.specs.Tickets.{has}
 use Rattle.model.specs.State.{kind_in}
 use Rattle.model.specs.Laws.{Orderly}
 use Rattle.model.proofs.Bits.{bit_within}
@@ -19,7 +19,7 @@ use Rattle.ordered.proofs.Orders.{same_is}
 use Rattle.ticket_list.specs.declared.pairs.Pair.{Pair}
 use Rattle.ticket_list.specs.Pairs.{comes_before}
 use Rattle.ticket_list.specs.PairOrder.{pair_order}
-use Rattle.ticket_list.specs.Listing.{Entries, tickets_in, held, meant, FilledPair, KeptList}
+use Rattle.ticket_list.specs.Listing.{Entries, tickets_in, meant, FilledPair, KeptList}
 
 -- holder and target of a ticket that is held stand
 pub standing_held : (standing : List Entity) (es : Entries) → All (FilledPair standing) es → (p : Pair) (x : ℕ) (c : Bool)

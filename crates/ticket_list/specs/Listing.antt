@@ -1,5 +1,5 @@
 -- What a ticket list means, and what it keeps true.
-use Rattle.std.specs.Prelude.{◌≡◌, ℕ, Bool, true, false, List, is_some, Some, None, Option}
+use Rattle.std.specs.Prelude.{◌≡◌, true, false, List, is_some, Some, None, Option}
 use Rattle.std.specs.List.{AllByRecursion as All}
 use Rattle.model.specs.declared.tickets.Entity.{Entity}
 use Rattle.model.specs.declared.tickets.TicketSet.{TicketSet}

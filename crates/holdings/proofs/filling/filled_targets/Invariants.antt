@@ -1,4 +1,4 @@
-use Rattle.std.proofs.Common.{◌≡◌, ◌≤◌, take}
+use Rattle.std.proofs.Common.{◌≡◌, take}
 use Rattle.model.specs.State.{count_targets}
 use Rattle.holdings.proofs.filling.filled_targets.Given as goal
 

@@ -1,4 +1,4 @@
-use Rattle.std.proofs.Common.{◌*◌, ◌≤◌, mul-le-mul, arith, rules}
+use Rattle.std.proofs.Common.{◌*◌, ◌≤◌, mul-le-mul, rules}
 use Rattle.kuyqelpa.proofs.run.run_set_up.Goals as goal
 
 pub slice_bounds-new-end-2 : goal.slice_bounds-new-end-2

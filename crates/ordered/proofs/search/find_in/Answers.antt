@@ -1,4 +1,4 @@
-use Rattle.std.proofs.Common.{◌<◌, get_or, take, Some, sym, ap, ◌∙◌, arith}
+use Rattle.std.proofs.Common.{◌<◌, take, Some, sym, ap, ◌∙◌, arith}
 use Rattle.ordered.proofs.Places.{found, value_found, front_read}
 use Rattle.ordered.proofs.Changes.{found_within}
 use Rattle.ordered.proofs.Orders.{Total}

@@ -1,4 +1,4 @@
-use Rattle.std.proofs.Common.{length, take, arith}
+use Rattle.std.proofs.Common.{take, arith}
 use Rattle.std.proofs.lemmas.List.{length-take-le}
 use Rattle.ordered.proofs.Places.{front_read, searched_lower, searched_higher, located_at, located_past, located_before}
 use Rattle.ordered.proofs.search.locate.Goals as goal

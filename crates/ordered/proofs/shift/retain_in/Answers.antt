@@ -1,4 +1,4 @@
-use Rattle.std.proofs.Common.{ℕ, take, filter, sym, ap, ◌∙◌, arith}
+use Rattle.std.proofs.Common.{ℕ, take, filter, ap, ◌∙◌, arith}
 use Rattle.std.proofs.lemmas.List.Filters.{FiltersInPlace-more_no, FiltersInPlace-more_set}
 use Rattle.ordered.proofs.shift.retain_in.Goals as goal
 use Rattle.ordered.proofs.shift.retain_in.Goals.{then-keeps, else-keeps}

@@ -1,4 +1,4 @@
-use Rattle.std.proofs.Common.{◌≡◌, sym, ap, ◌∙◌, ap₂, arith}
+use Rattle.std.proofs.Common.{◌≡◌, sym, ap, ◌∙◌, arith}
 use Rattle.model.specs.Tickets.{Tickets, tickets_of}
 use Rattle.model.specs.State.{takes, takes_beside}
 use Rattle.register.specs.Births.{share_pairs}

@@ -1,6 +1,5 @@
-use Rattle.std.proofs.Common.{◌≡◌, Bool, is_some, sym, ap, ◌∙◌, subst, arith}
+use Rattle.std.proofs.Common.{sym, ap, ◌∙◌, arith}
 use Rattle.model.specs.Tickets.{has, Tickets}
-use Rattle.model.specs.Calls.{first, upto}
 use Rattle.register.proofs.Linking.{link_found, link_passed_over, link_off}
 use Rattle.register.proofs.copies.lowest_link.Goals as goal
 use Rattle.register.proofs.copies.lowest_link.Goals.{then-link+else-has, else-link}

@@ -1,11 +1,11 @@
-use Rattle.std.proofs.Common.{◌≡◌, ℕ, Bool, true, false, [], ◌∷◌, ◌++◌, sym, ap, ◌∙◌, subst, ap₂}
+use Rattle.std.proofs.Common.{◌≡◌, true, [], ◌∷◌, ◌++◌, sym, ap, ◌∙◌, subst, ap₂}
 use Rattle.std.proofs.lemmas.Result.{err_from_is_err_and}
 use Rattle.std.proofs.lemmas.Bool.{cond-true}
 use Rattle.model.specs.declared.refusal.Refusal.TheVariants.{NotDemandable, PairsTaken}
 use Rattle.model.specs.Refusals.{told, granted, refused, bare, refusal_number}
-use Rattle.model.specs.Tickets.{Tickets, has, tickets_of}
-use Rattle.model.specs.State.{kind, stored, stores}
-use Rattle.model.specs.Calls.{check, passed, gained, demands, party_checks, demand as demanding}
+use Rattle.model.specs.Tickets.{Tickets, has}
+use Rattle.model.specs.State.{stored, stores}
+use Rattle.model.specs.Calls.{check, passed, gained, demands, party_checks}
 use Rattle.register.proofs.Fronts.{front_refused, front_unchanged, next_passed, gain_answer, gain_state, both_stand}
 use Rattle.register.proofs.gains.demand.Goals as goal
 

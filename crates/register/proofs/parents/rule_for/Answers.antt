@@ -1,4 +1,4 @@
-use Rattle.std.proofs.Common.{◌≡◌, ◌<◌, length, sym, ◌∙◌, arith}
+use Rattle.std.proofs.Common.{◌<◌, length, sym, ◌∙◌, arith}
 use Rattle.model.specs.Scheme.{rule_of}
 use Rattle.register.proofs.RuleSearch.{rule_here, rule_past, some_rule, no_rule}
 use Rattle.register.proofs.parents.rule_for.Goals as goal

@@ -4,7 +4,7 @@ use Rattle.model.specs.declared.refusal.Refusal.TheVariants.{NotHeld}
 use Rattle.model.specs.Refusals.{told, granted, refused, bare, refusal_number}
 use Rattle.model.specs.Tickets.{has, tickets_of}
 use Rattle.model.specs.State.{holds, stored}
-use Rattle.model.specs.Calls.{after, check, store_answer, without_right, party_checks, drop as dropping}
+use Rattle.model.specs.Calls.{after, check, store_answer, without_right, party_checks}
 use Rattle.register.proofs.Fronts.{front_refused, front_unchanged, drop_granted, drop_stored}
 use Rattle.register.proofs.takes.drop_ticket.Goals as goal
 

@@ -1,6 +1,6 @@
-use Rattle.std.proofs.Common.{◌≡◌, sym, ◌∙◌}
+use Rattle.std.proofs.Common.{◌≡◌}
 use Rattle.std.proofs.lemmas.Result.{err_from_is_err_and}
-use Rattle.scheme_records.specs.Bytes.{block, record_count}
+use Rattle.scheme_records.specs.Bytes.{block}
 use Rattle.scheme_file.proofs.Blocks.{own_decides, records_decide}
 use Rattle.scheme_file.proofs.checks.check_block.Goals as goal
 

@@ -1,4 +1,4 @@
-use Rattle.std.proofs.Common.{◌≡◌, sym, ◌∙◌}
+use Rattle.std.proofs.Common.{◌≡◌, ◌∙◌}
 use Rattle.scheme_records.specs.Bytes.{block, record_slice}
 use Rattle.scheme_records.specs.Listed.{listed, records, place_of}
 use Rattle.scheme_file.proofs.Blocks.{unknown_tag, known_tag}

@@ -1,5 +1,4 @@
 use Rattle.std.proofs.Common.{refl}
-use Rattle.model.specs.Refusals.{told}
 use Rattle.model.specs.Calls.{drop as dropping}
 use Rattle.register.proofs.Fronts.{call_kept}
 use Rattle.register.proofs.open.Register.drop_ticket.Goals as goal

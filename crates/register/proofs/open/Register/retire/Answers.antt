@@ -1,5 +1,4 @@
 use Rattle.std.proofs.Common.{refl}
-use Rattle.model.specs.Refusals.{told}
 use Rattle.model.specs.Calls.{retire as retiring}
 use Rattle.register.proofs.Fronts.{call_kept}
 use Rattle.register.proofs.open.Register.retire.Goals as goal

@@ -1,4 +1,4 @@
-use Rattle.std.proofs.Common.{◌≡◌, refl, ◌∙◌, arith}
+use Rattle.std.proofs.Common.{refl, ◌∙◌, arith}
 use Rattle.register.proofs.Entries.{entry_kept, enter_answer, enter_state}
 use Rattle.model.specs.SetUp.{enter as entering}
 use Rattle.register.proofs.set_up.SetUp.enter.Goals as goal

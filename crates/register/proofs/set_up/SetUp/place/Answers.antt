@@ -1,10 +1,10 @@
-use Rattle.std.proofs.Common.{◌≡◌, [], ◌∷◌, sym, refl, ap, ◌∙◌, subst}
+use Rattle.std.proofs.Common.{[], ◌∷◌, sym, refl, ap, ◌∙◌, subst}
 use Rattle.std.proofs.lemmas.Result.{err_from_is_err_and}
 use Rattle.model.specs.declared.refusal.Refusal.TheVariants.{PairsTaken}
 use Rattle.model.specs.Refusals.{told, refused, bare, refusal_number}
 use Rattle.model.specs.State.{stored, stores}
-use Rattle.model.specs.Calls.{after, check, gained, store_answer, party_checks}
-use Rattle.model.specs.SetUp.{place as placing, entry_answer}
+use Rattle.model.specs.Calls.{check, gained, party_checks}
+use Rattle.model.specs.SetUp.{place as placing}
 use Rattle.register.proofs.Entries.{entry_kept}
 use Rattle.register.proofs.Fronts.{front_refused, front_unchanged, gain_answer, gain_state, both_stand, right_below}
 use Rattle.register.proofs.set_up.SetUp.place.Goals as goal

@@ -1,4 +1,4 @@
-use Rattle.std.proofs.Common.{◌≡◌, List, sym, refl, ap, ◌∙◌, arith}
+use Rattle.std.proofs.Common.{List, sym, ap, arith}
 use Rattle.scheme_records.specs.declared.record.Record.{Record}
 use Rattle.scheme_records.specs.Listed.{count}
 use Rattle.scheme_records.proofs.Listing.{records_none, count_none, count_other, count_one}

@@ -1,4 +1,4 @@
-use Rattle.std.proofs.Common.{◌≡◌, List, sym, refl, ap, ◌∙◌, arith, rules}
+use Rattle.std.proofs.Common.{List, sym, ap, arith}
 use Rattle.scheme_records.specs.declared.record.Record.{Record}
 use Rattle.scheme_records.specs.Listed.{first_of}
 use Rattle.scheme_records.proofs.Listing.{records_none, passed_none, passed_other, found_here, found_lasts}

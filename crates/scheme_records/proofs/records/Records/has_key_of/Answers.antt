@@ -1,4 +1,4 @@
-use Rattle.std.proofs.Common.{◌≡◌, is_some, sym, ap, ◌∙◌}
+use Rattle.std.proofs.Common.{is_some, sym, ap, ◌∙◌}
 use Rattle.scheme_records.specs.Listed.{listed}
 use Rattle.scheme_records.specs.Said.{repeats}
 use Rattle.scheme_records.specs.declared.record.Record.{Record}

@@ -1,4 +1,4 @@
-use Rattle.std.proofs.Common.{◌≡◌, ℕ, Bool, sym, ◌∙◌, rules}
+use Rattle.std.proofs.Common.{ℕ, Bool, sym, ◌∙◌, rules}
 use Rattle.scheme_records.specs.Listed.{listed, any}
 use Rattle.scheme_records.specs.Said.{of_link, links_of}
 use Rattle.scheme_records.proofs.Saying.{above_next}

@@ -1,4 +1,4 @@
-use Rattle.std.proofs.Common.{◌≡◌, ℕ, true, false, not, is_some, sym, refl, ap, ◌∙◌}
+use Rattle.std.proofs.Common.{◌≡◌, ℕ, true, false, not, is_some, sym, ap, ◌∙◌}
 use Rattle.model.specs.Tickets.{tickets_of, empty}
 use Rattle.model.specs.State.{kind_in, holding}
 use Rattle.holdings.specs.Rows.{size, in_rows, roll}
