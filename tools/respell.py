@@ -19,6 +19,10 @@ TOKEN = re.compile(r"(?<![\w'·◌-])[A-Za-z_][\w'-]*")
 HEAD = re.compile(rf"^\s*(?:abbrev |unfoldable )?(?:pub )?(?:abbrev |unfoldable )?(?:data |record )?(?:pub )?({NAME}(?: {NAME})*)((?: \([^()]*(?:\([^()]*\)[^()]*)*\)| \{{[^}}]*\}})*) :(?: |$)(.*)")
 # lemmas whose plain respelling is a word of the library: what is taken of `bit_and` and `bit_or`
 APART = {'bit-and': 'bit-bit_and', 'bit-or': 'bit-bit_or'}
+# heads that the pattern does not see, and names given by 'as' or 'let'
+ALSO = {'Has-circle', 'Part-struct', 'Rule-struct', 'Rows-in-order', 'in-file', 'records-of', 'Keys-rise', 'in-high', 'in-low', 'is-left', 'is-less',
+        'now-is', 'put-entry'}
+IMPORTED = re.compile(r"use ([\w.]+)\.\{([^}]*)\}")
 WORDS = {'data', 'record', 'abbrev', 'pub', 'where', 'use', 'mod', 'let', 'in', 'elim'}
 
 
@@ -45,7 +49,18 @@ def own_names():
                 if n in WORDS:
                     continue
                 (made if re.match(r'(goal|need)\.', m[3]) else own).add(n)
-    return own - made, made
+    return (own | ALSO) - made, made
+
+
+def library_names(text):
+    """The names that a file imports from outside this repository: they stay."""
+    crates = set(os.listdir('crates'))
+    out = set()
+    for m in IMPORTED.finditer(text):
+        where = m[1].split('.')
+        if not (where[0] == 'Rattle' and len(where) > 1 and where[1] in crates):
+            out |= {n.strip().split(' as ')[0] for n in m[2].split(',')}
+    return out
 
 
 def respelt(name):
@@ -96,11 +111,12 @@ def main():
     if bad:
         print('\n'.join(bad))
         sys.exit(1)
-    put = lambda text: TOKEN.sub(lambda m: turn.get(m[0], m[0]), text)
+    put = lambda text, but: TOKEN.sub(lambda m: m[0] if m[0] in but else turn.get(m[0], m[0]), text)
     changed = 0
     for path in antt():
         old = open(path, encoding='utf-8').read()
-        new = '\n'.join(put(a) + b for a, b in (without_comment(l) for l in old.split('\n')))
+        but = library_names(old)
+        new = '\n'.join(put(a, but) + b for a, b in (without_comment(l) for l in old.split('\n')))
         if new != old:
             open(path, 'w', encoding='utf-8').write(new)
             changed += 1

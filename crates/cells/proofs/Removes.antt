@@ -53,7 +53,7 @@ removed_none st n cells m h =
     ap₂ (λ (l : List Entity) (t : Table). record { next = st.next; entities = l; tickets = t }) (sym (remove_none es m h)) same
 
 module _ (rows left : Rows) (cells moved : List ℕ) (m r : ℕ) (laid : Laid rows cells) (at : place_of (in_rows rows) m ≡ Some r)
-    (order : InOrder left) (kept : size left ≡ size rows) (next : left.next ≡ rows.next) (is-left : in_rows left ≡ remove_at (in_rows rows) r)
+    (order : InOrder left) (kept : size left ≡ size rows) (next : left.next ≡ rows.next) (is_left : in_rows left ≡ remove_at (in_rows rows) r)
     (long : length moved ≡ length cells) (q : Squeezed cells moved (size rows) r (length (in_rows rows)) (length (in_rows rows) * size rows)) where
   abbrev es : List Entity
   es = in_rows rows
@@ -116,12 +116,12 @@ module _ (rows left : Rows) (cells moved : List ℕ) (m r : ℕ) (laid : Laid ro
 
   pub removed_state : meant (roll left) (size left) moved ≡ removed (meant (roll rows) n cells) m
   removed_state =
-      ap₂ (λ (s : State) (k : ℕ). meant s k moved) (ap₂ (λ (x : ℕ) (l : List Entity). record { next = x; entities = l; tickets = λ h y. none }) next is-left) kept
+      ap₂ (λ (s : State) (k : ℕ). meant s k moved) (ap₂ (λ (x : ℕ) (l : List Entity). record { next = x; entities = l; tickets = λ h y. none }) next is_left) kept
       ∙ ap₂ (λ (l : List Entity) (t : Table). record { next = rows.next; entities = l; tickets = t }) removed_is (fun_ext (λ a. fun_ext (held_left a)))
 
   pub removed_laid : Laid left moved
   removed_laid =
-      let less : suc left.count ≡ count = omega (arith, count_is left order, ap length is-left, length_left es r here) in
+      let less : suc left.count ≡ count = omega (arith, count_is left order, ap length is_left, length_left es r here) in
       record {
         order = order;
         fits = rw (kept, long) laid.fits;

@@ -1,7 +1,7 @@
 -- What a spread and an outlook answer, and what the work table then holds.
 use Rattle.std.specs.Prelude.{ℕ, ◌+◌, ◌-◌, ◌<◌, ◌≤◌, List, [], ◌∷◌, length, count_ones}
 use Rattle.model.specs.declared.tickets.Entity.{Entity}
-use Rattle.model.specs.declared.refusal.Refusal.TheVariants.{Circle as Has-circle, TableTooSmall, NumbersSpent}
+use Rattle.model.specs.declared.refusal.Refusal.TheVariants.{Circle as HasCircle, TableTooSmall, NumbersSpent}
 use Rattle.model.specs.Refusals.{Answer, granted, refused, refusal_number}
 use Rattle.model.specs.Tickets.{Tickets}
 use Rattle.model.specs.Scheme.{Scheme}
@@ -41,7 +41,7 @@ pub data Spreads (S : Scheme) (st : State) (w : ℕ) : Answer Counts → State �
 -- an outlook into a work table of w rows, its refusals in the order in which they are told: a circle of creation; more entities
 -- than rows; more creations than there are rows or numbers left, told by whichever is fewer
 pub data Outlooks (S : Scheme) (st : State) (w : ℕ) : Answer Counts → State → Type 0 where
-  circle : Circle S → Outlooks S st w (refused (refusal_number Has-circle)) new
+  circle : Circle S → Outlooks S st w (refused (refusal_number HasCircle)) new
   crowded : (Circle S → ⊥) → w < length st.entities → Outlooks S st w (refused (refusal_number TableTooSmall)) new
   few_rows : (Circle S → ⊥) → length st.entities ≤ w → Exceeds S st (limit st w) → rows_left st w ≤ numbers_left st
       → Outlooks S st w (refused (refusal_number TableTooSmall)) new

@@ -3,8 +3,8 @@ use Rattle.std.specs.Prelude.{◌≡◌, ℕ, suc, ◌<◌, ◌≤◌, Bool, tru
 use Rattle.std.specs.Option.{option_map}
 use Rattle.std.specs.List.{slice_get}
 use Rattle.model.specs.declared.rules.Sight.{Sight}
-use Rattle.model.specs.declared.rules.Part.{Part as Part-struct}
-use Rattle.model.specs.declared.rules.Rule.{Rule as Rule-struct}
+use Rattle.model.specs.declared.rules.Part.{Part as PartStruct}
+use Rattle.model.specs.declared.rules.Rule.{Rule as RuleStruct}
 use Rattle.model.specs.Tickets.{Tickets, bit, has, none, tickets_of}
 
 -- one parent's part in a creation rule: its kind, and the tickets that go to the parent for the child (C), to the parent for
@@ -23,7 +23,7 @@ pub record Rule : Type 0 where
   pub own : Tickets
 
 -- what a part and a rule of the code mean
-abbrev pub part_of : Part-struct → Part
+abbrev pub part_of : PartStruct → Part
 part_of p = record {
   kind = p.kind;
   for_child = tickets_of p.for_child;
@@ -31,7 +31,7 @@ part_of p = record {
   to_child = tickets_of p.to_child;
 }
 
-abbrev pub rule_of : Rule-struct → Rule
+abbrev pub rule_of : RuleStruct → Rule
 rule_of r = record { first = part_of r.first; second = option_map part_of r.second; child = r.child; own = tickets_of r.own }
 
 pub record Scheme : Type 0 where

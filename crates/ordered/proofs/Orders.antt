@@ -1,6 +1,6 @@
 -- Rising lists of keys: a key divides them into what is before it, its own entry, and what is after it; and they stay rising.
 use Rattle.std.proofs.Common.{◌≡◌, Bool, true, false, not, ◌⊎◌, List, [], ◌∷◌, ◌++◌, Some, None, filter, sym, refl, ap, ◌∙◌, subst, ap₂, inl, inr}
-use Rattle.std.specs.List.{AllByRecursion as All}
+use Rattle.std.specs.List.{AllByRecursion}
 use Rattle.std.proofs.ByRecursion.{All-weaker, all_kept_by, kept_by_passes}
 use Rattle.std.proofs.lemmas.Bool.{cases_Bool, cond-true, cond-false, both_ways, and_parts, and_from, and_left, and_right}
 use Rattle.ordered.specs.declared.key.Entry.{Entry}
@@ -47,7 +47,7 @@ module _ {K : Type 0} (before : Order K) (o : Total before) where
   same_both j k e f = and_from _ _ (not_false _ e) (not_false _ f)
 
   -- what all keys after k come after, where k does
-  after_all : {V : Type 0} (j k : K) (es : List (Entry K V)) → before j k ≡ true → All (λ e. before k e.key ≡ true) es → All (λ e. before j e.key ≡ true) es
+  after_all : {V : Type 0} (j k : K) (es : List (Entry K V)) → before j k ≡ true → AllByRecursion (λ e. before k e.key ≡ true) es → AllByRecursion (λ e. before j e.key ≡ true) es
   after_all {V} j k es h a = All-weaker (λ (e : Entry K V). before k e.key ≡ true) (λ (e : Entry K V). before j e.key ≡ true) (λ e q. o.transitive j k e.key h q) es a
 
   -- what stays of a rising list rises, and so does a list before another
@@ -60,26 +60,26 @@ module _ {K : Type 0} (before : Order K) (o : Total before) where
     | inr f ↦ subst (Rising before) (sym (cond-false (p e) (e ∷ filter p es) (filter p es) f)) (rising_kept p es r.1)
   ]
 
-  all_both : {X : Type 0} (P : X → Type 0) (xs ys : List X) → All P xs → All P ys → All P (xs ++ ys)
+  all_both : {X : Type 0} (P : X → Type 0) (xs ys : List X) → AllByRecursion P xs → AllByRecursion P ys → AllByRecursion P (xs ++ ys)
   all_both P [] ys a b = b
   all_both P (x ∷ xs) ys a b = (a.0, all_both P xs ys a.1 b)
 
   rising_append : {V : Type 0} (xs ys : List (Entry K V)) → Rising before xs → Rising before ys
-      → All (λ x. All (λ y. before x.key y.key ≡ true) ys) xs → Rising before (xs ++ ys)
+      → AllByRecursion (λ x. AllByRecursion (λ y. before x.key y.key ≡ true) ys) xs → Rising before (xs ++ ys)
   rising_append [] ys r s a = s
   rising_append {V} (x ∷ xs) ys r s a = (all_both (λ (y : Entry K V). before x.key y.key ≡ true) xs ys r.0 a.0, rising_append xs ys r.1 s a.1)
 
   module _ {V : Type 0} (es : List (Entry K V)) (k : K) where
-    befores : All (λ e. before e.key k ≡ true) (entries_before before es k)
+    befores : AllByRecursion (λ e. before e.key k ≡ true) (entries_before before es k)
     befores = kept_by_passes (λ e. before e.key k) es
 
-    afters : All (λ e. before k e.key ≡ true) (entries_after before es k)
+    afters : AllByRecursion (λ e. before k e.key ≡ true) (entries_after before es k)
     afters = kept_by_passes (λ e. before k e.key) es
 
     -- whatever is before k is before whatever is after it
-    across : All (λ x. All (λ y. before x.key y.key ≡ true) (entries_after before es k)) (entries_before before es k)
+    across : AllByRecursion (λ x. AllByRecursion (λ y. before x.key y.key ≡ true) (entries_after before es k)) (entries_before before es k)
     across =
-        All-weaker (λ (x : Entry K V). before x.key k ≡ true) (λ (x : Entry K V). All (λ y. before x.key y.key ≡ true) (entries_after before es k))
+        All-weaker (λ (x : Entry K V). before x.key k ≡ true) (λ (x : Entry K V). AllByRecursion (λ y. before x.key y.key ≡ true) (entries_after before es k))
         (λ x h. after_all x.key k (entries_after before es k) h afters) (entries_before before es k) befores
 
     pub rising_out : Rising before es → Rising before (take_out before es k)
@@ -93,21 +93,21 @@ module _ {K : Type 0} (before : Order K) (o : Total before) where
         (afters, rising_kept (λ e. before k e.key) es r)
         (with_new (entries_before before es k) befores across)
       where
-        with_new : (xs : List (Entry K V)) → All (λ e. before e.key k ≡ true) xs → All (λ x. All (λ y. before x.key y.key ≡ true) (entries_after before es k)) xs
-            → All (λ x. All (λ y. before x.key y.key ≡ true) (record { key = k; value = v } ∷ entries_after before es k)) xs
+        with_new : (xs : List (Entry K V)) → AllByRecursion (λ e. before e.key k ≡ true) xs → AllByRecursion (λ x. AllByRecursion (λ y. before x.key y.key ≡ true) (entries_after before es k)) xs
+            → AllByRecursion (λ x. AllByRecursion (λ y. before x.key y.key ≡ true) (record { key = k; value = v } ∷ entries_after before es k)) xs
         with_new [] a b = tt
         with_new (x ∷ xs) a b = ((a.0, b.0), with_new xs a.1 b.1)
 
   -- where every key comes after k, all of it is after k and nothing before
-  none_before : {V : Type 0} (es : List (Entry K V)) (k : K) → All (λ e. before k e.key ≡ true) es → entries_before before es k ≡ []
+  none_before : {V : Type 0} (es : List (Entry K V)) (k : K) → AllByRecursion (λ e. before k e.key ≡ true) es → entries_before before es k ≡ []
   none_before [] k a = refl
   none_before (e ∷ es) k a = cond-false _ _ _ (not_back k e.key a.0) ∙ none_before es k a.1
 
-  all_after : {V : Type 0} (es : List (Entry K V)) (k : K) → All (λ e. before k e.key ≡ true) es → entries_after before es k ≡ es
+  all_after : {V : Type 0} (es : List (Entry K V)) (k : K) → AllByRecursion (λ e. before k e.key ≡ true) es → entries_after before es k ≡ es
   all_after [] k a = refl
   all_after (e ∷ es) k a = cond-true _ _ _ a.0 ∙ ap (λ l. e ∷ l) (all_after es k a.1)
 
-  pub not_there : {V : Type 0} (es : List (Entry K V)) (k : K) → All (λ e. before k e.key ≡ true) es → value_of before es k ≡ None
+  pub not_there : {V : Type 0} (es : List (Entry K V)) (k : K) → AllByRecursion (λ e. before k e.key ≡ true) es → value_of before es k ≡ None
   not_there [] k a = refl
   not_there (e ∷ es) k a = cond-false _ _ _ (apart_back e.key k a.0) ∙ not_there es k a.1
 
@@ -131,11 +131,11 @@ module _ {K : Type 0} (before : Order K) (o : Total before) where
         ]
     | inr f ↦ elim (cases_Bool (before k e.key)) [
       | inl t ↦
-          let all : All (λ f. before k f.key ≡ true) (e ∷ es) = (t, after_all k e.key es t r.0) in
+          let all : AllByRecursion (λ f. before k f.key ≡ true) (e ∷ es) = (t, after_all k e.key es t r.0) in
           inl (not_there (e ∷ es) k all, sym (ap₂ ◌++◌ (none_before (e ∷ es) k all) (all_after (e ∷ es) k all)))
       | inr g ↦
           let is : e.key ≡ k = o.total e.key k f g in
-          let rest : All (λ f. before k f.key ≡ true) es = subst (λ (j : K). All (λ f. before j f.key ≡ true) es) is r.0 in
+          let rest : AllByRecursion (λ f. before k f.key ≡ true) es = subst (λ (j : K). AllByRecursion (λ f. before j f.key ≡ true) es) is r.0 in
           let front : entries_before before (e ∷ es) k ≡ [] = cond-false _ _ _ f ∙ none_before es k rest in
           let behind : entries_after before (e ∷ es) k ≡ es = cond-false _ _ _ g ∙ all_after es k rest in
           let new : Entry K V = record { key = k; value = e.value } in

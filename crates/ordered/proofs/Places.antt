@@ -38,7 +38,7 @@ take_set_in (y ∷ ys) (suc n) zero x h = refl
 take_set_in (y ∷ ys) (suc n) (suc i) x h = ap (λ l. y ∷ l) (take_set_in ys n i x (omega arith))
 
 module _ {K V : Type 0} (before : Order K) (o : Total before) (es : List (Entry K V)) (k : K) (rising : Rising before es) where
-  module _ (low high m : ℕ) (x : Entry K V) (s : Searched before es low high k) (in-low : low ≤ m) (in-high : m < high) (is : x ≡ get_or es m x) where
+  module _ (low high m : ℕ) (x : Entry K V) (s : Searched before es low high k) (in_low : low ≤ m) (in_high : m < high) (is : x ≡ get_or es m x) where
     read : (d : Entry K V) → get_or es m d ≡ x
     read d = sym (get_or_read es m x (omega (arith, s.within)) is d)
 
@@ -57,7 +57,7 @@ module _ {K V : Type 0} (before : Order K) (o : Total before) (es : List (Entry 
     pub searched_higher : before x.key k ≡ false → Searched before es low m k
     searched_higher f = record {
       within = omega (arith, s.within);
-      ordered = in-low;
+      ordered = in_low;
       lower = s.lower;
       higher = λ i d h l. elim (cases_eq i m) [
         | inl e ↦ ap (λ (n : ℕ). before (get_or es n d).key k) e ∙ ap (λ (y : Entry K V). before y.key k) (read d) ∙ f

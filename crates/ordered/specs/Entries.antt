@@ -1,6 +1,6 @@
 -- Lists of keys with values, in rising order of the keys: what is found, put, taken out and kept.
 use Rattle.std.specs.Prelude.{◌≡◌, Bool, true, cond, not, ◌&&◌, List, [], ◌∷◌, ◌++◌, Some, None, filter, Option}
-use Rattle.std.specs.List.{AllByRecursion as All}
+use Rattle.std.specs.List.{AllByRecursion}
 use Rattle.ordered.specs.declared.key.Entry.{Entry}
 
 -- whether the first key comes before the second
@@ -14,7 +14,7 @@ same_key before j k = not (before j k) && not (before k j)
 -- keys rise strictly: each comes before all that follow
 abbrev pub Rising : {K V : Type 0} → Order K → List (Entry K V) → Type 0
 Rising before [] = Unit {0}
-Rising before (e ∷ es) = All (λ f. before e.key f.key ≡ true) es × Rising before es
+Rising before (e ∷ es) = AllByRecursion (λ f. before e.key f.key ≡ true) es × Rising before es
 
 -- the value of key k, where it is in the list
 abbrev pub value_of : {K V : Type 0} → Order K → List (Entry K V) → K → Option V

@@ -58,22 +58,22 @@ module _ (S : Scheme) (R : Room) (st : State) (o : Orderly st) (a : ℕ) (b : Op
   create_granted = sym (all_granted (checks S R st (create a b k)) st.next all)
 
   -- the child is added, and takes the next number
-  module _ (m : State) (now-is : m ≡ added st v.child) (n : ℕ) (next : n ≡ st.next) where
+  module _ (m : State) (now_is : m ≡ added st v.child) (n : ℕ) (next : n ≡ st.next) where
     pub first_there : standing m v.first.parent ≡ true
-    first_there = subst (λ (z : State). standing z v.first.parent ≡ true) (sym now-is) (still_stands st o v.child v.first.parent parents.first)
+    first_there = subst (λ (z : State). standing z v.first.parent ≡ true) (sym now_is) (still_stands st o v.child v.first.parent parents.first)
 
     pub second_there : IfSome v.second (λ s. standing m s.parent ≡ true)
     second_there = go v.second parents.second
       where
         go : (q : Option Share) → IfSome q (λ s. (standing st s.parent ≡ true) × (s.parent ≢ v.first.parent)) → IfSome q (λ s. standing m s.parent ≡ true)
-        go (Some s) h = subst (λ (z : State). standing z s.parent ≡ true) (sym now-is) (still_stands st o v.child s.parent h.0)
+        go (Some s) h = subst (λ (z : State). standing z s.parent ≡ true) (sym now_is) (still_stands st o v.child s.parent h.0)
         go None h = tt
 
     pub child_there : standing m n ≡ true
-    child_there = ap₂ standing now-is next ∙ child_stands st o v.child
+    child_there = ap₂ standing now_is next ∙ child_stands st o v.child
 
     born_is : holding m (birth_table m.tickets v n) ≡ child_state S st a b k
-    born_is = ap₂ (λ (z : State) (i : ℕ). holding z (birth_table z.tickets v i)) now-is next ∙ is
+    born_is = ap₂ (λ (z : State) (i : ℕ). holding z (birth_table z.tickets v i)) now_is next ∙ is
 
     pub birth_fits : filled (holding m (birth_table m.tickets v n)) ≤ R.pairs
     birth_fits = subst (λ (z : State). filled z ≤ R.pairs) (sym born_is) (leb-true (filled (child_state S st a b k)) R.pairs all.1.1.1.1.1.1.0)

@@ -1,6 +1,6 @@
 -- A worked example plays where a test of its lines, which the checker computes, comes out true.
 use Rattle.std.proofs.Common.{◌≡◌, ℕ, Bool, true, false, not, ◌&&◌, ◌||◌, eqb, List, [], ◌∷◌, refl, ap, inl, inr}
-use Rattle.std.specs.List.{AllByRecursion as All}
+use Rattle.std.specs.List.{AllByRecursion}
 use Rattle.std.proofs.lemmas.Bool.{eqb-true, and_parts, or_cases, both_ways}
 use Rattle.model.specs.Refusals.{Answer, granted, refused}
 use Rattle.model.specs.State.{State, Room, new, holds}
@@ -76,7 +76,7 @@ module _ (R : Room) where
   set_up_sound st s [] = s
   set_up_sound st s (e ∷ es) = set_up_sound (entry_step card_scheme R st e) (sound_entry_step card_scheme card_well_formed R st s e) es
 
-examples_by : (es : List Example) → examples_test es ≡ true → All Plays es
+examples_by : (es : List Example) → examples_test es ≡ true → AllByRecursion Plays es
 examples_by [] t = tt
 examples_by (e ∷ es) t =
     let st = set_up card_scheme e.room new e.entries in

@@ -6,7 +6,7 @@ use Rattle.std.proofs.lemmas.List.{drop_more, drop_all}
 use Rattle.std.proofs.lemmas.Option.{slice_get-get_or}
 use Rattle.std.proofs.lemmas.Bool.{cond-true, cond-false, lt-ltb}
 use Rattle.model.specs.declared.refusal.Refusal.TheVariants.{NoRule}
-use Rattle.model.specs.declared.rules.Rule.{Rule as Rule-struct}
+use Rattle.model.specs.declared.rules.Rule.{Rule as RuleStruct}
 use Rattle.model.specs.Refusals.{told, bare, refused}
 use Rattle.model.specs.Scheme.{Scheme, Rule, is_for, rule_number, rule_of}
 use Rattle.model.specs.State.{State, kind, standing, subject}
@@ -56,7 +56,7 @@ each_kind S st a (Some b) = refl
 each_kind S st a None = refl
 
 -- a rule that is found is the code's
-ok_or_rule : (o : Option Rule-struct) (found : Option Rule) → option_map rule_of o ≡ found
+ok_or_rule : (o : Option RuleStruct) (found : Option Rule) → option_map rule_of o ≡ found
     → (bare (told (ok_or o NoRule)) ≡ passed (check NoRule (is_some found) ∷ [])) × IfOk (ok_or o NoRule) (λ v. found ≡ Some (rule_of v))
 ok_or_rule (Some v) found e = (ap (λ (q : Option Rule). passed (check NoRule (is_some q) ∷ [])) e, sym e)
 ok_or_rule None found e = (ap (λ (q : Option Rule). passed (check NoRule (is_some q) ∷ [])) e, tt)
@@ -67,7 +67,7 @@ some_found S k1 k2 k (Some j) e = ap is_some (found_rule k1 k2 k S.rules j e).1
 some_found S k1 k2 k None e = refl
 
 -- where the parents' kinds were found, they are subjects, and the child's kind is declared, the rule decides
-module _ (S : Scheme) (st : State) (a : ℕ) (b : Option ℕ) (k : ℕ) (p : Option ParentKinds) (v : ParentKinds) (o : Option Rule-struct)
+module _ (S : Scheme) (st : State) (a : ℕ) (b : Option ℕ) (k : ℕ) (p : Option ParentKinds) (v : ParentKinds) (o : Option RuleStruct)
     (is : p ≡ Some v) (stand : is_some p ≡ each (standing st) a b) (kinds : IfSome p (λ w. (w.first ≡ kind st a) × (w.second ≡ option_map (kind st) b)))
     (subjects : each S.subject v.first v.second ≡ true) (declared : k < S.kinds)
     (found : option_map rule_of o ≡ rule_found S (rule_number S.rules 0 v.first v.second k)) where

@@ -1,6 +1,6 @@
 -- Worked examples under the card scheme: a table of registers, what is called there and answered, and what is then held.
 use Rattle.std.specs.Prelude.{◌≡◌, ℕ, Bool, true, false, List, [], ◌∷◌, None}
-use Rattle.std.specs.List.{AllByRecursion as All}
+use Rattle.std.specs.List.{AllByRecursion}
 use Rattle.model.specs.Refusals.{Answer, granted, refused}
 use Rattle.model.specs.State.{State, Room, new, holds}
 use Rattle.model.specs.Calls.{Call, copy, demand, create, drop, retire, answer, step}
@@ -129,4 +129,4 @@ abbrev pub examples : List Example
 examples = a_card_is_shared ∷ no_row_left ∷ no_pair_left ∷ []
 
 abbrev pub AllPlay : Type 0
-AllPlay = All Plays examples
+AllPlay = AllByRecursion Plays examples

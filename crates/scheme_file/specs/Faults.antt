@@ -11,7 +11,7 @@ use Rattle.scheme_file.specs.declared.fault.BlockLayer.{BlockLayer}
 use Rattle.scheme_file.specs.declared.fault.BlockLayer.TheVariants as in_block
 use Rattle.scheme_file.specs.declared.fault.BlockFault.{BlockFault}
 use Rattle.scheme_file.specs.declared.fault.FileLayer.{FileLayer}
-use Rattle.scheme_file.specs.declared.fault.FileLayer.TheVariants as in-file
+use Rattle.scheme_file.specs.declared.fault.FileLayer.TheVariants as in_file
 use Rattle.scheme_file.specs.declared.fault.FileFault.{FileFault}
 use Rattle.scheme_file.specs.declared.fault.FaultNumbers.{FaultNumbers}
 
@@ -59,8 +59,8 @@ abbrev pub block_numbered : BlockFault → Fault
 block_numbered f = layer_in_block f.block f.layer
 
 abbrev pub layer_in_file : FileLayer → Fault
-layer_in_file (in-file.File c) = in_whole (file_cause c)
-layer_in_file (in-file.Block f) = block_numbered f
+layer_in_file (in_file.File c) = in_whole (file_cause c)
+layer_in_file (in_file.Block f) = block_numbered f
 
 abbrev pub numbers : FileFault → Fault
 numbers f = layer_in_file f.layer
@@ -74,7 +74,7 @@ abbrev pub block_fault : RecordFault → BlockFault
 block_fault f = record { block = f.block; layer = in_block.Record f }
 
 abbrev pub file_fault : BlockFault → FileFault
-file_fault f = record { layer = in-file.Block f }
+file_fault f = record { layer = in_file.Block f }
 
 -- what a check tells: no fault, or one
 abbrev pub told : {F : Type 0} → (F → Fault) → Result Unit F → Option Fault

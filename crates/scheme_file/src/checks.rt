@@ -1,6 +1,6 @@
 //! The check of a scheme file: each block, then its records, then the next block.
 ghost use Rattle.std.specs.Prelude.{◌≡◌, ◌<◌, ◌≤◌, length, Some};
-ghost use Rattle.scheme_records.specs.Bytes.{block as Block-of, blocks};
+ghost use Rattle.scheme_records.specs.Bytes.{blocks};
 ghost use Rattle.scheme_records.specs.Listed.{in_turn, listed};
 ghost use Rattle.scheme_file.specs.Faults.{told, numbers, record_numbered, block_numbered, first_fault, Verdict};
 ghost use Rattle.scheme_file.specs.Checks.{tests_of, record_tests, own_tests, block_tests, file_tests, fault_of};

@@ -2,7 +2,7 @@
 ghost use Rattle.std.specs.Prelude.{◌≡◌, true, false, is_some};
 ghost use Rattle.model.specs.Scheme.{part_of};
 ghost use Rattle.model.specs.Tickets.{tickets_of};
-ghost use Rattle.scheme_records.specs.Listed.{listed, records as records-of, all_places};
+ghost use Rattle.scheme_records.specs.Listed.{listed, records as records_of, all_places};
 ghost use Rattle.scheme_records.specs.Said.{set_said, part_said};
 ghost use Rattle.scheme_file.specs.Checks.{nested, fault_of};
 ghost use Rattle.scheme_file.specs.Lawful.{file_scheme, file_well_formed};
@@ -23,7 +23,7 @@ impl<'a> SchemeFile<'a> {
 
     // All records.
     fn records(&self) -> Records<'a>
-        ensures { listed result ≡ records-of self.now.bytes.now (all_places self.now.bytes.now) }
+        ensures { listed result ≡ records_of self.now.bytes.now (all_places self.now.bytes.now) }
     {
         Records::all(self.bytes)
     }

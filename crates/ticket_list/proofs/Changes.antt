@@ -1,7 +1,7 @@
 -- What a ticket list keeps true, and means, where an entity is added or removed and where a pair is stored.
 use Rattle.std.proofs.Common.{◌≡◌, ℕ, ◌≤◌, Bool, true, false, not, ◌&&◌, ◌||◌, eqb, ltb, leb, List, [], ◌∷◌, length, is_some, Some, None, Option, sym, refl, ap, ◌∙◌, subst, ap₂, inl, inr, arith}
 use mathlib.Core.Path.{fun_ext}
-use Rattle.std.specs.List.{AllByRecursion as All}
+use Rattle.std.specs.List.{AllByRecursion}
 use Rattle.std.proofs.ByRecursion.{All-weaker, all_kept_by, kept_by_passes, All-append}
 use Rattle.std.proofs.lemmas.List.{length-take-le}
 use Rattle.std.proofs.lemmas.Bool.{cases_Bool, cond-true, cond-false, cond_both, and_parts, and_from, and_left, and_right, or_cases, both_ways, lt-leb, le-leb, lt-ltb, le-ltb, eqb-true, cases_lt}
@@ -15,12 +15,12 @@ use Rattle.model.proofs.Entities.{some_inside, push_old, still_kind}
 use Rattle.model.proofs.Filling.{none_of, empty_by}
 use Rattle.holdings.specs.declared.rows.Rows.{Rows}
 use Rattle.holdings.specs.Rows.{size, in_rows, roll, place_of, remove_at}
-use Rattle.holdings.specs.Rows.{InOrder as Rows-in-order}
+use Rattle.holdings.specs.Rows.{InOrder as RowsInOrder}
 use Rattle.holdings.proofs.Places.{standing_place, remove_place, remove_none}
 use Rattle.ordered.specs.declared.key.Entry.{Entry}
 use Rattle.ordered.specs.declared.list.OrderedList.{OrderedList}
 use Rattle.ordered.specs.Entries.{same_key, value_of, entries_before, entries_after, take_out, keep}
-use Rattle.ordered.specs.Entries.{put as put-entry}
+use Rattle.ordered.specs.Entries.{put as put_entry}
 use Rattle.ordered.specs.Lists.{InOrder, places, listed, has_place}
 use Rattle.ticket_list.specs.declared.pairs.Pair.{Pair}
 use Rattle.ticket_list.specs.Pairs.{comes_before, apart_from}
@@ -34,11 +34,11 @@ abbrev ListOfPairs : Type 0
 ListOfPairs = OrderedList Pair TicketSet
 
 -- pairs stay filled while their parties stand
-still_filled : (old now : List Entity) (es : Entries) → ((a : ℕ) → is_some (kind_in old a) ≡ true → is_some (kind_in now a) ≡ true) → All (FilledPair old) es → All (FilledPair now) es
+still_filled : (old now : List Entity) (es : Entries) → ((a : ℕ) → is_some (kind_in old a) ≡ true → is_some (kind_in now a) ≡ true) → AllByRecursion (FilledPair old) es → AllByRecursion (FilledPair now) es
 still_filled old now es f a = All-weaker (FilledPair old) (FilledPair now) (λ e p. record { holder = f _ p.holder; target = f _ p.target; filled = p.filled }) es a
 
 -- one entity more
-module _ (rows left : Rows) (list : ListOfPairs) (kind : ℕ) (r : Answer ℕ) (kept : KeptList rows list) (same : size left ≡ size rows) (order : Rows-in-order left)
+module _ (rows left : Rows) (list : ListOfPairs) (kind : ℕ) (r : Answer ℕ) (kept : KeptList rows list) (same : size left ≡ size rows) (order : RowsInOrder left)
     (state : roll left ≡ after r (added (roll rows) kind) (roll rows)) where
   more_standing : (a : Answer ℕ) (e : ℕ) → is_some (kind_in (in_rows rows) e) ≡ true → is_some (kind_in (after a (added (roll rows) kind) (roll rows)).entities e) ≡ true
   more_standing (granted v) e h =
@@ -64,10 +64,10 @@ module _ (rows left : Rows) (list : ListOfPairs) (kind : ℕ) (r : Answer ℕ) (
 
 -- one entity less
 module _ (rows left : Rows) (list less : ListOfPairs) (m i : ℕ) (kept : KeptList rows list) (at : place_of (in_rows rows) m ≡ Some i) (same : size left ≡ size rows)
-    (order : Rows-in-order left) (next : left.next ≡ rows.next) (is-left : in_rows left ≡ remove_at (in_rows rows) i) (long : places less ≡ places list)
-    (pairs_order : InOrder comes_before less) (is-less : listed less ≡ keep (apart_from m) (listed list)) where
+    (order : RowsInOrder left) (next : left.next ≡ rows.next) (is_left : in_rows left ≡ remove_at (in_rows rows) i) (long : places less ≡ places list)
+    (pairs_order : InOrder comes_before less) (is_less : listed less ≡ keep (apart_from m) (listed list)) where
   gone : in_rows left ≡ remove (in_rows rows) m
-  gone = is-left ∙ remove_place 1 rows.next (in_rows rows) m i kept.rows_order.rising at
+  gone = is_left ∙ remove_place 1 rows.next (in_rows rows) m i kept.rows_order.rising at
 
   apart_parts : (p : Pair) → apart_from m p ≡ true → (eqb p.holder m ≡ false) × (eqb p.target m ≡ false)
   apart_parts p e =
@@ -81,7 +81,7 @@ module _ (rows left : Rows) (list less : ListOfPairs) (m i : ℕ) (kept : KeptLi
   stays : (a : ℕ) → eqb a m ≡ false → is_some (kind_in (in_rows rows) a) ≡ true → is_some (kind_in (in_rows left) a) ≡ true
   stays a f h = ap (λ (es : List Entity). is_some (kind_in es a)) gone ∙ ap is_some (still_kind (in_rows rows) m a f) ∙ h
 
-  both : (es : Entries) → All (FilledPair (in_rows rows)) es → All (λ e. apart_from m e.key ≡ true) es → All (FilledPair (in_rows left)) es
+  both : (es : Entries) → AllByRecursion (FilledPair (in_rows rows)) es → AllByRecursion (λ e. apart_from m e.key ≡ true) es → AllByRecursion (FilledPair (in_rows left)) es
   both [] a b = tt
   both (e ∷ es) a b =
       let p = apart_parts e.key b.0 in
@@ -92,14 +92,14 @@ module _ (rows left : Rows) (list less : ListOfPairs) (m i : ℕ) (kept : KeptLi
     rows_order = order;
     pairs_order = pairs_order;
     fits = ap₂ fit same long ∙ kept.fits;
-    filled = subst (All (FilledPair (in_rows left))) (sym is-less)
+    filled = subst (AllByRecursion (FilledPair (in_rows left))) (sym is_less)
         (both (keep (apart_from m) (listed list)) (all_kept_by (λ e. apart_from m e.key) (FilledPair (in_rows rows)) (listed list) kept.filled)
         (kept_by_passes (λ e. apart_from m e.key) (listed list)));
   }
 
   pub removed_state : meant (roll left) (listed less) ≡ removed (meant (roll rows) (listed list)) m
   removed_state =
-      let tickets : held (listed less) ≡ without (held (listed list)) m = ap held is-less ∙ held_others (listed list) m in
+      let tickets : held (listed less) ≡ without (held (listed list)) m = ap held is_less ∙ held_others (listed list) m in
       ap₂ (λ (n : ℕ) (es : List Entity). meant record { next = n; entities = es; tickets = λ h y. none } (listed less)) next gone
       ∙ ap (λ (t : Table). record { next = rows.next; entities = remove (in_rows rows) m; tickets = t }) tickets
 
@@ -121,7 +121,7 @@ module _ (rows : Rows) (list : ListOfPairs) (kept : KeptList rows list) (m : ℕ
       (fun_ext (λ a. fun_ext (λ b. cond_both (eqb a m || eqb b m) none (held (listed list) a b) (λ s. held (listed list) a b ≡ s) (nothing_held a b) (λ f. refl))))
 
 -- a pair is empty exactly where it is not listed
-empty_unlisted : (standing : List Entity) (es : Entries) → All (FilledPair standing) es → (p : Pair) → empty (tickets_in (value_of comes_before es p)) ≡ not (is_some (value_of comes_before es p))
+empty_unlisted : (standing : List Entity) (es : Entries) → AllByRecursion (FilledPair standing) es → (p : Pair) → empty (tickets_in (value_of comes_before es p)) ≡ not (is_some (value_of comes_before es p))
 empty_unlisted standing [] a p = refl
 empty_unlisted standing (e ∷ es) a p = elim (cases_Bool (same_key comes_before e.key p)) [
   | inl t ↦
@@ -181,7 +181,7 @@ module _ (rows : Rows) (list : ListOfPairs) (kept : KeptList rows list) where
 
     -- the list afterwards
     module _ (left : ListOfPairs) (long : places left ≡ places list) (order : InOrder comes_before left) where
-      kept_with : All (FilledPair (in_rows rows)) (listed left) → KeptList rows left
+      kept_with : AllByRecursion (FilledPair (in_rows rows)) (listed left) → KeptList rows left
       kept_with a = record { rows_order = kept.rows_order; pairs_order = order; fits = ap (fit (size rows)) long ∙ kept.fits; filled = a }
 
       abbrev fronts : Entries
@@ -190,28 +190,28 @@ module _ (rows : Rows) (list : ListOfPairs) (kept : KeptList rows list) where
       abbrev behinds : Entries
       behinds = entries_after comes_before (listed list) (pair h y)
 
-      before_filled : All (FilledPair (in_rows rows)) fronts
+      before_filled : AllByRecursion (FilledPair (in_rows rows)) fronts
       before_filled = all_kept_by (λ e. comes_before e.key (pair h y)) (FilledPair (in_rows rows)) (listed list) kept.filled
 
-      after_filled : All (FilledPair (in_rows rows)) behinds
+      after_filled : AllByRecursion (FilledPair (in_rows rows)) behinds
       after_filled = all_kept_by (λ e. comes_before (pair h y) e.key) (FilledPair (in_rows rows)) (listed list) kept.filled
 
-      pub put_kept : empty (tickets_of s) ≡ false → listed left ≡ put-entry comes_before (listed list) (pair h y) s → KeptList rows left
+      pub put_kept : empty (tickets_of s) ≡ false → listed left ≡ put_entry comes_before (listed list) (pair h y) s → KeptList rows left
       put_kept e is =
           let new : Entry Pair TicketSet = record { key = pair h y; value = s } in
-          kept_with (subst (All (FilledPair (in_rows rows))) (sym is) (All-append (FilledPair (in_rows rows)) fronts (new ∷ behinds) before_filled
+          kept_with (subst (AllByRecursion (FilledPair (in_rows rows))) (sym is) (All-append (FilledPair (in_rows rows)) fronts (new ∷ behinds) before_filled
           (record { holder = stand_h; target = stand_y; filled = e }, after_filled)))
 
-      pub put_state : listed left ≡ put-entry comes_before (listed list) (pair h y) s → meant (roll rows) (listed left) ≡ stored st h y (tickets_of s)
+      pub put_state : listed left ≡ put_entry comes_before (listed list) (pair h y) s → meant (roll rows) (listed left) ≡ stored st h y (tickets_of s)
       put_state is = ap (holding (roll rows)) (ap held is ∙ held_put (listed list) h y s)
 
       pub out_kept : listed left ≡ take_out comes_before (listed list) (pair h y) → KeptList rows left
       out_kept is =
-          kept_with (subst (All (FilledPair (in_rows rows))) (sym is) (All-append (FilledPair (in_rows rows)) fronts behinds before_filled after_filled))
+          kept_with (subst (AllByRecursion (FilledPair (in_rows rows))) (sym is) (All-append (FilledPair (in_rows rows)) fronts behinds before_filled after_filled))
 
       pub out_state : empty (tickets_of s) ≡ true → listed left ≡ take_out comes_before (listed list) (pair h y) → meant (roll rows) (listed left) ≡ stored st h y (tickets_of s)
       out_state e is =
           ap (holding (roll rows)) (ap held is ∙ held_out (listed list) h y ∙ ap (put (held (listed list)) h y) (sym (none_of (tickets_of s) e)))
 
       pub same_kept : listed left ≡ listed list → KeptList rows left
-      same_kept is = kept_with (subst (All (FilledPair (in_rows rows))) (sym is) kept.filled)
+      same_kept is = kept_with (subst (AllByRecursion (FilledPair (in_rows rows))) (sym is) kept.filled)

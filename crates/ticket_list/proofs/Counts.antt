@@ -1,13 +1,13 @@
 -- As many pairs are filled as are listed.
 use Rattle.std.proofs.Common.{◌≡◌, ℕ, ◌+◌, ◌-◌, ◌≤◌, leb, List, [], ◌∷◌, length, sym, refl, ap, ◌∙◌, inl, inr, arith}
-use Rattle.std.specs.List.{AllByRecursion as All}
+use Rattle.std.specs.List.{AllByRecursion}
 use Rattle.std.proofs.lemmas.Bool.{cond-false, cases_lt, le-leb, lt-leb}
 use Rattle.model.specs.declared.tickets.Entity.{Entity}
 use Rattle.model.specs.Tickets.{tickets_of, empty}
 use Rattle.model.specs.State.{State, Table, count_targets, count_pairs, filled, put, takes}
 use Rattle.model.specs.Laws.{Rising}
 use Rattle.model.proofs.Filling.{pairs_put}
-use Rattle.ordered.specs.Entries.{Rising as Keys-rise}
+use Rattle.ordered.specs.Entries.{Rising as KeysRise}
 use Rattle.ordered.proofs.Orders.{not_there}
 use Rattle.ticket_list.specs.Pairs.{comes_before}
 use Rattle.ticket_list.specs.PairOrder.{pair_order}
@@ -22,7 +22,7 @@ no_pairs : (hs ys : List Entity) → count_pairs (held []) hs ys ≡ 0
 no_pairs [] ys = refl
 no_pairs (h ∷ hs) ys = omega (arith, no_targets h.number ys, no_pairs hs ys)
 
-pub filled_listed : (st : State) (es : Entries) → Rising 1 st.entities st.next → All (FilledPair st.entities) es → Keys-rise comes_before es
+pub filled_listed : (st : State) (es : Entries) → Rising 1 st.entities st.next → AllByRecursion (FilledPair st.entities) es → KeysRise comes_before es
     → filled (meant st es) ≡ length es
 filled_listed st [] r a k = no_pairs st.entities st.entities
 filled_listed st (e ∷ es) r a k =

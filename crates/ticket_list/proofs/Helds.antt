@@ -7,7 +7,7 @@ use Rattle.model.specs.Tickets.{Tickets, tickets_of, none}
 use Rattle.model.specs.State.{put, without}
 use Rattle.ordered.specs.declared.key.Entry.{Entry}
 use Rattle.ordered.specs.Entries.{same_key, value_of, take_out, keep}
-use Rattle.ordered.specs.Entries.{put as put-entry}
+use Rattle.ordered.specs.Entries.{put as put_entry}
 use Rattle.ordered.proofs.Orders.{same_self, same_is}
 use Rattle.ordered.proofs.Values.{value_keep, value_put, value_out}
 use Rattle.ticket_list.specs.declared.pairs.Pair.{Pair}
@@ -43,7 +43,7 @@ held_first e es = fun_ext (λ a. fun_ext (λ b.
     in_cond (same_key comes_before e.key (pair a b)) (Some e.value) (value_of comes_before es (pair a b))
     ∙ ap (λ (t : Bool). cond t (tickets_of e.value) (held es a b)) (same_pair e.key a b)))
 
-pub held_put : (es : Entries) (h y : ℕ) (s : TicketSet) → held (put-entry comes_before es (pair h y) s) ≡ put (held es) h y (tickets_of s)
+pub held_put : (es : Entries) (h y : ℕ) (s : TicketSet) → held (put_entry comes_before es (pair h y) s) ≡ put (held es) h y (tickets_of s)
 held_put es h y s = fun_ext (λ a. fun_ext (λ b.
     ap tickets_in (value_put comes_before pair_order es (pair h y) (pair a b) s)
     ∙ in_cond (same_key comes_before (pair h y) (pair a b)) (Some s) (value_of comes_before es (pair a b))

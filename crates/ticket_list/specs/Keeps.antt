@@ -1,7 +1,7 @@
 -- What a ticket list keeps true makes its meaning orderly.
 use Rattle.std.specs.Prelude.{◌≡◌, ℕ, Bool, true, false, List, [], ◌∷◌, is_some, Some, None, Option}
 use Rattle.std.proofs.Common.{inl, inr, sym, ap, subst, ◌∙◌}
-use Rattle.std.specs.List.{AllByRecursion as All}
+use Rattle.std.specs.List.{AllByRecursion}
 use Rattle.std.proofs.lemmas.Bool.{cases_Bool, cond-false}
 use Rattle.model.specs.declared.tickets.Entity.{Entity}
 use Rattle.model.specs.declared.tickets.TicketSet.{TicketSet}
@@ -22,7 +22,7 @@ use Rattle.ticket_list.specs.PairOrder.{pair_order}
 use Rattle.ticket_list.specs.Listing.{Entries, tickets_in, meant, FilledPair, KeptList}
 
 -- holder and target of a ticket that is held stand
-pub standing_held : (standing : List Entity) (es : Entries) → All (FilledPair standing) es → (p : Pair) (x : ℕ) (c : Bool)
+pub standing_held : (standing : List Entity) (es : Entries) → AllByRecursion (FilledPair standing) es → (p : Pair) (x : ℕ) (c : Bool)
     → has (tickets_in (value_of comes_before es p)) x c ≡ true → (is_some (kind_in standing p.holder) ≡ true) × (is_some (kind_in standing p.target) ≡ true)
 standing_held standing [] a p x c h = none_has x c h
 standing_held standing (e ∷ es) a p x c h = elim (cases_Bool (same_key comes_before e.key p)) [

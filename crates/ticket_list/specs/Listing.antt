@@ -1,13 +1,13 @@
 -- What a ticket list means, and what it keeps true.
 use Rattle.std.specs.Prelude.{◌≡◌, true, false, List, is_some, Some, None, Option}
-use Rattle.std.specs.List.{AllByRecursion as All}
+use Rattle.std.specs.List.{AllByRecursion}
 use Rattle.model.specs.declared.tickets.Entity.{Entity}
 use Rattle.model.specs.declared.tickets.TicketSet.{TicketSet}
 use Rattle.model.specs.Tickets.{Tickets, tickets_of, none, empty}
 use Rattle.model.specs.State.{State, Table, Room, kind_in, holding}
 use Rattle.holdings.specs.declared.rows.Rows.{Rows}
 use Rattle.holdings.specs.Rows.{size, in_rows}
-use Rattle.holdings.specs.Rows.{InOrder as Rows-in-order}
+use Rattle.holdings.specs.Rows.{InOrder as RowsInOrder}
 use Rattle.ordered.specs.declared.key.Entry.{Entry}
 use Rattle.ordered.specs.declared.list.OrderedList.{OrderedList}
 use Rattle.ordered.specs.Entries.{value_of}
@@ -45,7 +45,7 @@ list_room rows list = record { rows = size rows; pairs = places list }
 
 -- what a list keeps true: rows and pairs are in order, the memory fits, and every listed pair is filled
 pub record KeptList (rows : Rows) (list : OrderedList Pair TicketSet) : Type 0 where
-  pub rows_order : Rows-in-order rows
+  pub rows_order : RowsInOrder rows
   pub pairs_order : InOrder comes_before list
   pub fits : fit (size rows) (places list) ≡ true
-  pub filled : All (FilledPair (in_rows rows)) (listed list)
+  pub filled : AllByRecursion (FilledPair (in_rows rows)) (listed list)
