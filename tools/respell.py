@@ -72,25 +72,25 @@ def respelt(name):
     return '_'.join(p.lower() for p in parts)
 
 
-def outside_text(line):
-    """The parts of a line of code: (text, whether it is code)."""
+def outside_text(text):
+    """The parts of a source file: (text, whether it is code)."""
     out, i, start = [], 0, 0
-    while i < len(line):
-        if line.startswith('//', i):
-            out.append((line[start:i], True))
-            out.append((line[i:], False))
-            return out
-        if line[i] == '"':
+    while i < len(text):
+        j = i
+        if text.startswith('//', i):
+            j = text.find('\n', i)
+            j = len(text) if j < 0 else j
+        elif text[i] == '"':
             j = i + 1
-            while j < len(line) and line[j] != '"':
-                j += 2 if line[j] == '\\' else 1
-            out.append((line[start:i], True))
-            out.append((line[i:j + 1], False))
-            start = i = j + 1
+            while j < len(text) and text[j] != '"':
+                j += 2 if text[j] == '\\' else 1
+            j += 1
+        if j == i:
+            i += 1
             continue
-        i += 1
-    out.append((line[start:], True))
-    return out
+        out += [(text[start:i], True), (text[i:j], False)]
+        start = i = j
+    return out + [(text[start:], True)]
 
 
 def main():
@@ -124,7 +124,7 @@ def main():
     put_dashed = lambda text: TOKEN.sub(lambda m: dashed.get(m[0], m[0]), text)
     for path in sorted(glob.glob('crates/*/src/**/*.rt', recursive=True)):
         old = open(path, encoding='utf-8').read()
-        new = '\n'.join(''.join(put_dashed(t) if code else t for t, code in outside_text(l)) for l in old.split('\n'))
+        new = ''.join(put_dashed(t) if code else t for t, code in outside_text(old))
         if new != old:
             open(path, 'w', encoding='utf-8').write(new)
             changed += 1

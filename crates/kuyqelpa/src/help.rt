@@ -11,11 +11,11 @@ kuyqelpa --help        prints this text
 
 A script has a command on each line. # starts a comment, and blank lines are passed over.
   scheme card        chooses the card scheme: ok
-  cells N            begins a set_up with N rows, from 1 to 512, an entity in each: ok, or refused 17
-In a set_up:
+  cells N            begins a set-up with N rows, from 1 to 512, an entity in each: ok, or refused 17
+In a set-up:
   enter TYPE         enters an entity: entered NUMBER, or refused
   place A TICKET     gives entity A a ticket: ok, or refused
-  open               ends the set_up and opens the register: ok
+  open               ends the set-up and opens the register: ok
 Once the register is open:
   copy A B TICKET    copies a ticket from entity A to entity B: granted link NUMBER, or refused
   demand A TICKET    gives entity A a ticket that it may have for the asking: granted, or refused
