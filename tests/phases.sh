@@ -5,15 +5,15 @@ set -u
 here=$(cd "$(dirname "$0")/.." && pwd)
 work=$(mktemp -d)
 trap 'rm -rf "$work"' EXIT
-cp -r "$here/crates" "$here/crates.txt" "$work"
-[ -d "$here/target" ] && cp -r "$here/target" "$work"
-file=$work/crates/kuyqelpa/src/phase.rt
+(cd "$here" && tar -c --exclude=out crates crates.txt) | tar -x -C "$work"
+program=$work/crates/kuyqelpa
+file=$program/src/phase.rt
 failed=0
 
 refused() {
     cp "$here/crates/kuyqelpa/src/phase.rt" "$file"
     sed -i "s/$2/$3/" "$file"
-    if ! cmp -s "$here/crates/kuyqelpa/src/phase.rt" "$file" && (cd "$work" && rt dev kuyqelpa 2>&1) | grep -q "error\[unknown-method\]: no method named \`$4\`"; then
+    if ! cmp -s "$here/crates/kuyqelpa/src/phase.rt" "$file" && (cd "$program" && rt check 2>&1) | grep -q "error\[unknown-method\]: no method named \`$4\`"; then
         echo "ok: $1"
     else
         echo "FAILED: $1"
