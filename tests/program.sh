@@ -18,6 +18,7 @@ check() {
 turned_down() {
     said=$("$here/run" "$@" 2>&1 >/dev/null)
     check "kuyqelpa $* ends with status 1 and a message" "$?${said:+ said}" "1 said"
+    check "the message is one line and names the program" "$(echo "$said" | grep -c '')$(echo "$said" | grep -c '^kuyqelpa: ')" "11"
 }
 
 "$here/run" --help >/dev/null || exit 1

@@ -19,6 +19,7 @@ use model::Entity;
 use run::{CELLS, ROWS, Teller, run};
 use std::alloc::Global;
 use std::io::Read;
+use std::process::ExitCode;
 use std::{env, fs};
 
 // Lends the memory and runs a script.
@@ -77,10 +78,12 @@ fn serve(rt: &HostRuntime) -> anyhow::Result<()> {
     }
 }
 
-fn main(rt: HostRuntime) -> anyhow::Result<()> {
-    let done = serve(&rt);
-    if let Err(error) = &done {
-        let _ = eprintln!(rt; "kuyqelpa: {error}");
+fn main(rt: HostRuntime) -> ExitCode {
+    match serve(&rt) {
+        Ok(()) => ExitCode::SUCCESS,
+        Err(error) => {
+            let _ = eprintln!(rt; "kuyqelpa: {error}");
+            ExitCode::FAILURE
+        }
     }
-    done
 }

@@ -129,7 +129,7 @@ pub record Outlook (S : Scheme) (st : State) (w : ℕ) (d : Drawing) (t : Table)
   pub spread : Closure S d.state t
 
 -- The stand-in of an entity: itself where it stood when the outlook was drawn; for one created since, what the outlook made by the
--- same rule from its parents' stand-ins, in order. The births are those since the outlook, the latest first.
+-- same rule from its parents' stand-ins, in order, be they retired since or not. The births are those since the outlook, the latest first.
 abbrev pub stand_in : List Made → List Birth → ℕ → ℕ
 stand_in ms [] e = e
 stand_in ms (b ∷ bs) e =

@@ -1,6 +1,6 @@
 //! Pairs of a holder and a target, as keys.
 ghost use Rattle.ticket_list.specs.Pairs.{comes_before, apart_from};
-ghost use Rattle.std.proofs.Common.{rules};
+ghost use Rattle.ticket_list.specs.PairOrder.{pair_order};
 
 use ordered::{Keep, Key};
 
@@ -14,11 +14,11 @@ pub struct Pair {
 impl Key for Pair {
     ghost before = { comes_before };
 
-    ghost irreflexive = { Prim.search rules };
+    ghost irreflexive = { pair_order.irreflexive };
 
-    ghost transitive = { Prim.search rules };
+    ghost transitive = { pair_order.transitive };
 
-    ghost total = { Prim.search rules };
+    ghost total = { pair_order.total };
 
     fn is_before(self, other: Self) -> bool {
         self.holder < other.holder || self.holder == other.holder && self.target < other.target

@@ -18,6 +18,7 @@ use ordered::Entry;
 use run::{CELLS, PAIRS, ROWS, Teller, run};
 use std::alloc::Global;
 use std::io::Read;
+use std::process::ExitCode;
 use std::{env, fs};
 use ticket_list::Pair;
 
@@ -91,10 +92,12 @@ fn serve(rt: &HostRuntime) -> anyhow::Result<()> {
     }
 }
 
-fn main(rt: HostRuntime) -> anyhow::Result<()> {
-    let done = serve(&rt);
-    if let Err(error) = &done {
-        let _ = eprintln!(rt; "workbench: {error}");
+fn main(rt: HostRuntime) -> ExitCode {
+    match serve(&rt) {
+        Ok(()) => ExitCode::SUCCESS,
+        Err(error) => {
+            let _ = eprintln!(rt; "workbench: {error}");
+            ExitCode::FAILURE
+        }
     }
-    done
 }
