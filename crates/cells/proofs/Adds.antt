@@ -9,7 +9,7 @@ use Rattle.model.specs.Tickets.{none}
 use Rattle.model.specs.State.{State, added, holding}
 use Rattle.model.specs.Calls.{after}
 use Rattle.holdings.specs.declared.rows.Rows.{Rows}
-use Rattle.holdings.specs.Rows.{size, in_rows, roll, InOrder, place_of}
+use Rattle.holdings.specs.Rows.{size, in_rows, roll, place_of}
 use Rattle.holdings.proofs.Places.{place_some, place_push, place_above}
 use Rattle.cells.specs.Layout.{Laid, unpack, cell_at, in_cell, held, meant}
 use Rattle.cells.proofs.Cells.{count_is, none_held}
@@ -31,17 +31,17 @@ module _ (rows : Rows) (cells : List ℕ) (kind : ℕ) (laid : Laid rows cells) 
   more = es ++ record { number = rows.next; kind = kind } ∷ []
 
   place_more : (a : ℕ) → place_of more a ≡ cond (eqb rows.next a) (Some (length es)) (place_of es a)
-  place_more a = place_push es record { number = rows.next; kind = kind } a (place_above 1 rows.next es laid.order.rising)
+  place_more a = place_push es record { number = rows.next; kind = kind } a (place_above 1 rows.next es rows.order.rising)
 
   -- the new one is at the last place, where its row and its column are clear
   held_more : length more ≤ n → (a b : ℕ) → held more n cells a b ≡ held es n cells a b
   held_more l a b =
       let few : length es < n = omega (arith, length_push es record { number = rows.next; kind = kind }) in
-      let count = count_is rows laid.order in
+      let count = count_is rows in
       let within : (c i : ℕ) → place_of more c ≡ Some i → i < n = (λ c i e. omega (arith, (place_some more c i e).0)) in
       elim (cases_Bool (eqb rows.next a)) [
         | inl t ↦
-            let gone : place_of es a ≡ None = ap (place_of es) (sym (eqb-true rows.next a t)) ∙ place_above 1 rows.next es laid.order.rising in
+            let gone : place_of es a ≡ None = ap (place_of es) (sym (eqb-true rows.next a t)) ∙ place_above 1 rows.next es rows.order.rising in
             let last : place_of more a ≡ Some (length es) = place_more a ∙ cond-true _ _ _ t in
             clear_cell cells n (place_of more a) (place_of more b) (λ i j p q.
             let e : ◌≡◌ {A = Option ℕ} (Some (length es)) (Some i) = sym last ∙ p in
@@ -52,7 +52,7 @@ module _ (rows : Rows) (cells : List ℕ) (kind : ℕ) (laid : Laid rows cells) 
             let same : place_of more a ≡ place_of es a = place_more a ∙ cond-false _ _ _ f in
             elim (cases_Bool (eqb rows.next b)) [
               | inl t ↦
-                  let gone : place_of es b ≡ None = ap (place_of es) (sym (eqb-true rows.next b t)) ∙ place_above 1 rows.next es laid.order.rising in
+                  let gone : place_of es b ≡ None = ap (place_of es) (sym (eqb-true rows.next b t)) ∙ place_above 1 rows.next es rows.order.rising in
                   let last : place_of more b ≡ Some (length es) = place_more b ∙ cond-true _ _ _ t in
                   clear_cell cells n (place_of more a) (place_of more b) (λ i j p q.
                   let e : ◌≡◌ {A = Option ℕ} (Some (length es)) (Some j) = sym last ∙ q in
@@ -64,12 +64,12 @@ module _ (rows : Rows) (cells : List ℕ) (kind : ℕ) (laid : Laid rows cells) 
       ]
 
   -- what the rows answered, and what they then mean
-  module _ (left : Rows) (r : Answer ℕ) (kept : size left ≡ n) (order : InOrder left) (state : roll left ≡ after r (added (roll rows) kind) (roll rows)) where
+  module _ (left : Rows) (r : Answer ℕ) (kept : size left ≡ n) (state : roll left ≡ after r (added (roll rows) kind) (roll rows)) where
     entities : in_rows left ≡ (after r (added (roll rows) kind) (roll rows)).entities
     entities = ap (λ (s : State). s.entities) state
 
     fits : length (in_rows left) ≤ n
-    fits = omega (arith, count_is left order, order.fits)
+    fits = omega (arith, count_is left, left.order.fits)
 
     more_meant : (a : Answer ℕ) → length (after a (added (roll rows) kind) (roll rows)).entities ≤ n
         → meant (after a (added (roll rows) kind) (roll rows)) n cells ≡ after a (added (meant (roll rows) n cells) kind) (meant (roll rows) n cells)
@@ -82,14 +82,3 @@ module _ (rows : Rows) (cells : List ℕ) (kind : ℕ) (laid : Laid rows cells) 
     longer : (a : Answer ℕ) → length es ≤ length (after a (added (roll rows) kind) (roll rows)).entities
     longer (granted v) = omega (arith, length_push es record { number = rows.next; kind = kind })
     longer (refused v) = omega arith
-
-    pub added_laid : Laid left cells
-    added_laid =
-        let up : rows.count ≤ left.count = omega (arith, count_is rows laid.order, count_is left order, longer r, ap length entities) in
-        record {
-          order = order;
-          fits = rw kept laid.fits;
-          nested = laid.nested;
-          clear = subst (λ (m : ℕ). (i j : ℕ) → i < m → j < m → (left.count ≤ i) ⊎ (left.count ≤ j) → get_or cells (i * m + j) 0 ≡ 0) (sym kept)
-              (λ i j hi hj out. laid.clear i j hi hj (elim out [ inl o ↦ inl (omega arith) | inr o ↦ inr (omega arith) ]));
-        }

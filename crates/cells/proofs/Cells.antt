@@ -7,7 +7,7 @@ use Rattle.model.specs.declared.tickets.Entity.{Entity}
 use Rattle.model.specs.State.{kind_in}
 use Rattle.model.specs.Tickets.{none}
 use Rattle.holdings.specs.declared.rows.Rows.{Rows}
-use Rattle.holdings.specs.Rows.{size, in_rows, InOrder, place_of}
+use Rattle.holdings.specs.Rows.{size, in_rows, place_of}
 use Rattle.holdings.proofs.Places.{place_some, standing_place}
 use Rattle.cells.specs.Layout.{fit, Laid, cell_at, cell_of, in_cell}
 
@@ -50,8 +50,8 @@ none_held cells n None p (inr e) = refl
 same_place : (es : List Entity) (a b i : ℕ) → place_of es a ≡ Some i → place_of es b ≡ Some i → a ≡ b
 same_place es a b i p q = sym (place_some es a i p).1 ∙ (place_some es b i q).1
 
-pub count_is : (rows : Rows) → InOrder rows → length (in_rows rows) ≡ rows.count
-count_is rows h = length-take-le rows.count rows.entities.now h.fits
+pub count_is : (rows : Rows) → length (in_rows rows) ≡ rows.count
+count_is rows = length-take-le rows.count rows.entities.now rows.order.fits
 
 module _ (rows : Rows) (cells : List ℕ) (laid : Laid rows cells) where
   abbrev es : List Entity
@@ -64,7 +64,7 @@ module _ (rows : Rows) (cells : List ℕ) (laid : Laid rows cells) where
   sizes = fit_sizes n (length cells) laid.fits
 
   pub few : length es ≤ n
-  few = omega (arith, count_is rows laid.order, laid.order.fits)
+  few = omega (arith, count_is rows, rows.order.fits)
 
   pub row_within : (a i : ℕ) → place_of es a ≡ Some i → i < n
   row_within a i p = omega (arith, (place_some es a i p).0, few)

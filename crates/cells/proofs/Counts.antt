@@ -44,7 +44,7 @@ always_stores R st h y s big sh sy = elim (cases_Bool (empty (st.tickets h y))) 
 module _ (rows : Rows) (cells : List ℕ) (laid : Laid rows cells) where
   pub used_le : length (in_rows rows) * length (in_rows rows) ≤ size rows * size rows
   used_le =
-      let n : length (in_rows rows) ≤ size rows = omega (arith, count_is rows laid.order, laid.order.fits) in
+      let n : length (in_rows rows) ≤ size rows = omega (arith, count_is rows, rows.order.fits) in
       mul-le (length (in_rows rows)) (length (in_rows rows)) (size rows) (size rows) n n
 
   pub filled_le : filled (meant (roll rows) (size rows) cells) ≤ length (in_rows rows) * length (in_rows rows)

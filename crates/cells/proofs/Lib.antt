@@ -3,4 +3,3 @@ mod Counts
 mod Cells
 mod Removes
 mod Stores
-mod Wipes

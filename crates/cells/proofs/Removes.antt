@@ -9,7 +9,7 @@ use Rattle.model.specs.declared.tickets.Entity.{Entity}
 use Rattle.model.specs.Tickets.{none}
 use Rattle.model.specs.State.{State, Table, remove, removed, without}
 use Rattle.holdings.specs.declared.rows.Rows.{Rows}
-use Rattle.holdings.specs.Rows.{size, in_rows, roll, InOrder, place_of, remove_at, past}
+use Rattle.holdings.specs.Rows.{size, in_rows, roll, place_of, remove_at, past}
 use Rattle.holdings.proofs.Places.{past_from, place_some, place_left, place_removed, remove_place, remove_none, length_left}
 use Rattle.cells.specs.Layout.{Laid, Nested, unpack, cell_at, in_cell, held, meant}
 use Rattle.cells.specs.Squeeze.{squeezed, Squeezed}
@@ -32,10 +32,6 @@ squeeze_more old cells n r count i j w hj l is q =
       still = λ c h. get_or-set_other cells k c w 0 (λ e. omega arith) ∙ q.still c (omega arith);
     }
 
--- a table in which nothing has been squeezed yet
-pub squeeze_none : (old : List ℕ) (n r count : ℕ) → Squeezed old old n r count 0
-squeeze_none old n r count = record { moved = λ c h. absurd (omega arith); still = λ c h. refl }
-
 -- squeezed cells, with the sizes as the rows tell them
 pub at_sizes : (old cells : List ℕ) (r n m count k : ℕ) → n ≡ m → count ≡ k → Squeezed old cells n r count (count * n) → Squeezed old cells m r k (k * m)
 at_sizes old cells r n m count k e f q = subst (λ (x : ℕ). Squeezed old cells x r k (k * x)) e (subst (λ (x : ℕ). Squeezed old cells n r x (x * n)) f q)
@@ -53,7 +49,7 @@ removed_none st n cells m h =
     ap₂ (λ (l : List Entity) (t : Table). record { next = st.next; entities = l; tickets = t }) (sym (remove_none es m h)) same
 
 module _ (rows left : Rows) (cells moved : List ℕ) (m r : ℕ) (laid : Laid rows cells) (at : place_of (in_rows rows) m ≡ Some r)
-    (order : InOrder left) (kept : size left ≡ size rows) (next : left.next ≡ rows.next) (is_left : in_rows left ≡ remove_at (in_rows rows) r)
+    (kept : size left ≡ size rows) (next : left.next ≡ rows.next) (is_left : in_rows left ≡ remove_at (in_rows rows) r)
     (long : length moved ≡ length cells) (q : Squeezed cells moved (size rows) r (length (in_rows rows)) (length (in_rows rows) * size rows)) where
   abbrev es : List Entity
   es = in_rows rows
@@ -71,7 +67,7 @@ module _ (rows left : Rows) (cells moved : List ℕ) (m r : ℕ) (laid : Laid ro
         ∙ ap₂ (squeezed cells n r count) (div-mul-add i n j hj) (mod-mul-add i n j hj)
     | inr l ↦
         q.still (i * n + j) (omega (arith, mul-le count n i n l (omega arith)))
-        ∙ laid.clear i j hi hj (inl (omega (arith, count_is rows laid.order)))
+        ∙ laid.clear i j hi hj (inl (omega (arith, count_is rows)))
         ∙ sym (cond-false _ _ _ (and_left _ _ (le-ltb (i + 1) count (omega arith))))
   ]
 
@@ -98,7 +94,7 @@ module _ (rows left : Rows) (cells moved : List ℕ) (m r : ℕ) (laid : Laid ro
   within a i e = omega (arith, (place_some (remove_at es r) a i e).0, length_left es r here)
 
   removed_is : remove_at es r ≡ remove es m
-  removed_is = remove_place 1 rows.next es m r laid.order.rising at
+  removed_is = remove_place 1 rows.next es m r rows.order.rising at
 
   gone : (a : ℕ) → eqb a m ≡ true → place_of (remove_at es r) a ≡ None
   gone a t = ap₂ place_of removed_is (eqb-true a m t) ∙ place_removed es m
@@ -121,9 +117,8 @@ module _ (rows left : Rows) (cells moved : List ℕ) (m r : ℕ) (laid : Laid ro
 
   pub removed_laid : Laid left moved
   removed_laid =
-      let less : suc left.count ≡ count = omega (arith, count_is left order, ap length is_left, length_left es r here) in
+      let less : suc left.count ≡ count = omega (arith, count_is left, ap length is_left, length_left es r here) in
       record {
-        order = order;
         fits = rw (kept, long) laid.fits;
         nested = λ k. elim (cases_lt k (count * n)) [
           | inl l ↦ subst Nested (sym (q.moved k l)) (cond_both (ltb (k / n + 1) count && ltb (k % n + 1) count) _ _ Nested (λ e. laid.nested _) (λ e. refl))

@@ -66,11 +66,10 @@ module _ (rows : Rows) (cells : List ℕ) (laid : Laid rows cells) (h y : ℕ) (
     pub stored_laid : Nested w → Laid rows (set cells k w)
     stored_laid nw =
         let f = pair_cell rows cells laid h y k at in
-        let count = count_is rows laid.order in
+        let count = count_is rows in
         let i = (place_some es h f.0 f.2).0 in
         let j = (place_some es y f.1 f.3).0 in
         record {
-          order = laid.order;
           fits = rw length-set laid.fits;
           nested = λ m. elim (cases_eq m k) [
             | inl e ↦ elim (cases_lt k (length cells)) [

@@ -27,8 +27,8 @@ of_nested cells None x f h = h
 
 pub laid_orderly : (rows : Rows) (cells : List ℕ) → Laid rows cells → Orderly (meant (roll rows) (size rows) cells)
 laid_orderly rows cells laid = record {
-  rising = laid.order.rising;
-  numbers = laid.order.numbers;
+  rising = rows.order.rising;
+  numbers = rows.order.numbers;
   only_standing = λ h y x c e.
       let b = of_both cells (size rows) (place_of (in_rows rows) h) (place_of (in_rows rows) y) x c e in
       (standing_place (in_rows rows) h ∙ b.0, standing_place (in_rows rows) y ∙ b.1);

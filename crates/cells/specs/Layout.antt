@@ -7,7 +7,7 @@ use Rattle.model.specs.Tickets.{Tickets, none}
 use Rattle.model.specs.State.{State, Table, Room, holding}
 use Rattle.model.specs.Calls.{check, decide}
 use Rattle.holdings.specs.declared.rows.Rows.{Rows}
-use Rattle.holdings.specs.Rows.{InOrder, size, place_of}
+use Rattle.holdings.specs.Rows.{size, place_of}
 
 -- memory that fits: from 1 to 512 rows, and a cell for every pair of them
 abbrev pub fit : ℕ → ℕ → Bool
@@ -51,9 +51,8 @@ held es n cells = λ h y. in_cell cells (cell_of es n h y)
 abbrev pub meant : State → ℕ → List ℕ → State
 meant st n cells = holding st (held st.entities n cells)
 
--- what a table keeps true: the rows are in order, the memory fits, every word is nested, and a cell without holder or target is 0
+-- what a table keeps true: the memory fits, every word is nested, and a cell without holder or target is 0
 pub record Laid (rows : Rows) (cells : List ℕ) : Type 0 where
-  pub order : InOrder rows
   pub fits : fit (size rows) (length cells) ≡ true
   pub nested : (k : ℕ) → Nested (slice_index cells k)
   pub clear : (i j : ℕ) → i < size rows → j < size rows → (rows.count ≤ i) ⊎ (rows.count ≤ j) → slice_index cells (i * size rows + j) ≡ 0

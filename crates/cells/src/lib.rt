@@ -5,6 +5,7 @@ ghost use Rattle.std.specs.Prelude.{◌≡◌};
 ghost use Rattle.model.specs.Refusals.{told};
 ghost use Rattle.cells.specs.Layout.{fit_answer};
 
+use holdings::MOST_ROWS;
 use model::Refusal;
 
 mod squeeze;
@@ -17,7 +18,7 @@ pub use table::CellTable;
 pub fn check(rows: usize, cells: usize) -> Result<(), Refusal>
     ensures { told result ≡ fit_answer rows cells }
 {
-    if rows >= 1 && rows <= 512 && cells == rows * rows {
+    if (1..=MOST_ROWS).contains(&rows) && cells == rows * rows {
         Ok(())
     } else {
         Err(Refusal::UnfitMemory)

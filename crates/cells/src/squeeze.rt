@@ -3,6 +3,9 @@ ghost use Rattle.std.specs.Prelude.{◌≡◌, ℕ, suc, ◌+◌, ◌*◌, ◌<�
 ghost use Rattle.holdings.specs.Rows.{past};
 ghost use Rattle.cells.specs.Squeeze.{squeezed, Squeezed};
 
+// The functions below ask for the same of the cells and their sizes: a struct of these would hold a `&mut` that each lends on, and be
+// no plainer for three private steps.
+
 // The place that moves up to `i` where the place `out` is taken out.
 fn past(out: usize, i: usize) -> usize
     requires { i < 512 }
@@ -35,6 +38,8 @@ fn squeeze_row(cells: &mut [u32], n: usize, out: usize, count: usize, i: usize)
     requires at { i < n }
     ensures { (old : List ℕ) → Squeezed old cells.old n out count (i * n) → Squeezed old cells.new n out count (i * n + n) }
 {
+    // By place: what moves to a cell comes from a later one of the same slice. Two moves and a fill (`copy_within`, `fill`) at offsets of
+    // each row would be no plainer.
     for j in 0..n {
         let word = squeezed_at(&*cells, n, out, count, i, j);
         cells[i * n + j] = word;
@@ -48,6 +53,7 @@ pub fn squeeze(cells: &mut [u32], n: usize, out: usize, count: usize)
     requires within { count ≤ n }
     ensures { Squeezed cells.old cells.new n out count (count * n) }
 {
+    // By place, as in a row.
     for i in 0..count {
         squeeze_row(&mut *cells, n, out, count, i);
     }

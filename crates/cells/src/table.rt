@@ -1,5 +1,6 @@
 //! The table: rows for entities, and a cell for every pair of rows.
 ghost use Rattle.std.specs.Prelude.{◌≡◌, ℕ, ◌*◌, ◌<◌, ◌≤◌, true, length, IfSome, slice_index};
+ghost use Rattle.std.proofs.Props.{props};
 ghost use Rattle.model.specs.State.{new};
 ghost use Rattle.holdings.specs.Rows.{size, in_rows, roll};
 ghost use Rattle.cells.specs.Layout.{fit, square, cell_of, meant, Laid};
@@ -15,17 +16,17 @@ use model::{Entity, Refusal, TicketSet};
 pub struct CellTable<'r, 'c> {
     rows: Rows<'r>,
     cells: &'c mut [u32],
+    ghost laid: { Laid rows cells.now } by { Prim.hlevel props },
 }
 
 impl<'r, 'c> CellTable<'r, 'c> {
     /// A table in which nobody stands, whatever the memory held. Its sizes fit, as `check` says.
     pub fn new(entities: &'r mut [Entity], cells: &'c mut [u32]) -> CellTable<'r, 'c>
         requires { fit (length entities.old) (length cells.old) ≡ true }
-        ensures ok { Laid result.rows result.cells.now }
         ensures state { meant (roll result.rows) (size result.rows) result.cells.now ≡ new }
         ensures room { square (size result.rows) ≡ square (length entities.old) }
     {
-        wipe(&mut *cells);
+        cells.fill(0);
         CellTable {
             rows: Rows::new(entities),
             cells,
@@ -34,7 +35,6 @@ impl<'r, 'c> CellTable<'r, 'c> {
 
     // The cell of a pair, where holder and target stand.
     fn cell(&self, holder: u32, target: u32) -> Option<usize>
-        requires { Laid self.now.rows self.now.cells.now }
         ensures cell { result ≡ cell_of (in_rows self.now.rows) (size self.now.rows) holder target }
         ensures within { IfSome result (λ k. k < length self.now.cells.now) }
     {
@@ -52,22 +52,12 @@ fn pairs_of(count: usize) -> usize
     count * count
 }
 
-// Clears every cell.
-fn wipe(cells: &mut [u32])
-    ensures { (k : ℕ) → k < length cells.new → slice_index cells.new k ≡ 0 }
-{
-    for cell in cells.iter_mut() {
-        *cell = 0;
-    }
-}
-
 impl<'r, 'c> Holdings for CellTable<'r, 'c> {
-    ghost ok = { λ t. Laid t.rows t.cells.now };
-
     ghost meaning = { λ t. meant (roll t.rows) (size t.rows) t.cells.now };
 
-    ghost orderly = { λ t h. laid_orderly t.rows t.cells.now h };
+    ghost orderly = { λ t. laid_orderly t.rows t.cells.now t.laid };
 
+    // Handed on to the rows in a line each, as a ticket list hands them on: a trait over what has rows would have as many lines.
     fn next_number(&mut self) -> u32 {
         self.rows.next_number()
     }
@@ -81,9 +71,7 @@ impl<'r, 'c> Holdings for CellTable<'r, 'c> {
     }
 
     fn find(&mut self, number: u32) -> Option<u8> {
-        let place = self.rows.find(number)?;
-        let entity = self.rows.entity(place)?;
-        Some(entity.kind)
+        self.rows.kind_of(number)
     }
 
     fn tickets(&mut self, holder: u32, target: u32) -> TicketSet {
@@ -129,7 +117,7 @@ impl<'r, 'c> HoldingsMut for CellTable<'r, 'c> {
     }
 
     fn clear(&mut self) {
-        wipe(&mut *self.cells);
+        self.cells.fill(0);
         self.rows.clear();
     }
 }

@@ -5,7 +5,8 @@ ghost use Rattle.cells.specs.Layout.{unpack, Nested};
 
 use model::TicketSet;
 
-// The word of a set.
+// The word of a set. No `From`: neither type is of this crate, and a type of its own for words would be made and opened at each
+// use.
 pub fn packed(set: TicketSet) -> u32
     ensures word { unpack result ≡ tickets_of set }
     ensures nested { Nested result }

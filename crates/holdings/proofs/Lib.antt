@@ -1,4 +1,4 @@
 pub mod Places
-mod Counting
-mod Searches
 mod Takes
+mod Searches
+mod Counting

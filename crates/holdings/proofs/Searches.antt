@@ -1,45 +1,51 @@
--- What a look at a row in the middle says of the rows before and after it.
-use Rattle.std.proofs.Common.{◌≡◌, ℕ, ◌+◌, ◌<◌, ◌≤◌, List, length, get_or, take, Some, None, sym, ap, ◌∙◌, subst, inl, inr, arith}
-use Rattle.std.proofs.lemmas.List.{length-take-le, get_or-take}
-use Rattle.std.proofs.lemmas.Bool.{cases_eq, cases_lt}
+-- What a binary search by number finds among entities whose numbers rise.
+use Rattle.std.proofs.Common.{◌≡◌, ℕ, ◌<◌, ◌≤◌, List, length, get_or, Result, Ok, Err, sym, ap, ◌∙◌, inl, inr, arith}
+use borrow.Author.Tests.{tests}
+use Rattle.std.specs.declared.cmp.Ordering.{Ordering}
+use Rattle.std.specs.declared.cmp.Ordering.TheVariants.{Less, Equal, Greater}
+use Rattle.std.specs.Cmp.{ranked}
+use Rattle.std.specs.List.Sorted.{IsSearchInRange, IsBinarySearchResult, IsNonDecreasingBy}
+use Rattle.std.specs.Ordering.{nat_cmp, ordering_index}
+use Rattle.std.proofs.lemmas.List.{get_or_default}
+use Rattle.std.specs.Result.{result_ok}
+use Rattle.std.proofs.lemmas.Bool.{cases_lt}
 use Rattle.model.specs.declared.tickets.Entity.{Entity}
-use Rattle.holdings.specs.Rows.{Filed, place_of}
+use Rattle.model.specs.Laws.{Rising}
+use Rattle.holdings.specs.Rows.{place_of}
 use Rattle.holdings.proofs.Places.{blank, rising_apart, place_at, place_none}
 
-module _ (rows : List Entity) (count next a : ℕ) (filed : Filed rows count next) where
-  abbrev at : ℕ → ℕ
-  at i = (get_or rows i blank).number
+-- of two numbers the higher one compares no lower
+higher : (a x y : ℕ) → x ≤ y → ordering_index (nat_cmp x a) ≤ ordering_index (nat_cmp y a)
+higher a x y le = grind (arith, tests)
 
-  taken : length (take count rows) ≡ count
-  taken = length-take-le count rows filed.fits
+module _ (low n a : ℕ) (es : List Entity) (rising : Rising low es n) where
+  abbrev compared : Entity → Ordering
+  compared e = nat_cmp e.number a
 
-  at_taken : (i : ℕ) → i < count → (get_or (take count rows) i blank).number ≡ at i
-  at_taken i h = ap (λ (e : Entity). e.number) (get_or-take count rows i blank h)
-
-  apart : (i j : ℕ) → i < j → j < count → at i < at j
-  apart i j l h =
-      let r = rising_apart 1 next (take count rows) filed.rising i j l (omega (arith, taken)) in
-      omega (arith, at_taken i (omega arith), at_taken j h)
-
-  pub lower_half : (m : ℕ) → m < count → at m < a → (i : ℕ) → i < m + 1 → at i < a
-  lower_half m h l i b = elim (cases_eq i m) [
-    | inl e ↦ subst (λ (k : ℕ). at k < a) (sym e) l
-    | inr n ↦ omega (arith, apart i m (omega arith) h)
+  no_lower : (i j : ℕ) → i ≤ j → j < length es → (get_or es i blank).number ≤ (get_or es j blank).number
+  no_lower i j le l = elim (cases_lt i j) [
+    | inl h ↦ omega (arith, rising_apart low n es rising i j h l)
+    | inr h ↦ let e : i ≡ j = omega arith in omega (arith, ap (λ (k : ℕ). (get_or es k blank).number) e)
   ]
 
-  pub higher_half : (m : ℕ) → m < count → a < at m → (i : ℕ) → m ≤ i → i < count → a < at i
-  higher_half m h l i b w = elim (cases_eq i m) [
-    | inl e ↦ subst (λ (k : ℕ). a < at k) (sym e) l
-    | inr n ↦ omega (arith, apart m i (omega arith) w)
-  ]
+  non_decreasing : IsNonDecreasingBy (λ e. ordering_index (compared e)) es
+  non_decreasing i j d le l =
+      let here = get_or_default es j d blank l in
+      let before = get_or_default es i d blank (omega arith) in
+      higher a (get_or es i d).number (get_or es j d).number
+      (omega (arith, no_lower i j le l, ap (λ (e : Entity). e.number) here, ap (λ (e : Entity). e.number) before))
 
-  pub found : (m : ℕ) → m < count → at m ≡ a → Some m ≡ place_of (take count rows) a
-  found m h e =
-      sym (place_at 1 next (take count rows) filed.rising m (omega (arith, taken))) ∙ ap (place_of (take count rows)) (at_taken m h ∙ e)
-
-  pub not_found : (low high : ℕ) → high ≤ low → ((i : ℕ) → i < low → at i < a) → ((i : ℕ) → high ≤ i → i < count → a < at i)
-      → None ≡ place_of (take count rows) a
-  not_found low high h before after = sym (place_none (take count rows) a (λ i l e.
-      let w : i < count = omega (arith, taken) in
-      let q = at_taken i w in
-      elim (cases_lt i low) [ inl b ↦ omega (arith, before i b) | inr b ↦ omega (arith, after i (omega arith) w) ]))
+  pub found : (r : Result ℕ ℕ) → IsSearchInRange r (length es) → IsBinarySearchResult compared es r → result_ok r ≡ place_of es a
+  found (Ok i) within at =
+      let same : (get_or es i blank).number ≡ a = ranked (get_or es i blank).number a Equal (sym (at blank)) in
+      sym (place_at low n es rising i within) ∙ ap (place_of es) same
+  found (Err i) within parted =
+      let apart = parted non_decreasing in
+      sym (place_none es a (λ k l e. elim (cases_lt k i) [
+        | inl h ↦
+            let lower : (get_or es k blank).number < a = ranked (get_or es k blank).number a Less (sym (apart.0 k blank (omega arith) h)) in
+            omega arith
+        | inr h ↦
+            let above : a < (get_or es k blank).number = ranked (get_or es k blank).number a Greater (sym (apart.1 k blank (omega arith) l)) in
+            omega arith
+      ]))

@@ -1,5 +1,5 @@
 -- The rows that are taken, where one is taken more and where those after a place move up.
-use Rattle.std.proofs.Common.{◌≡◌, ℕ, zero, suc, ◌+◌, ◌-◌, ◌<◌, ◌≤◌, List, [], ◌∷◌, ◌++◌, length, get_or, take, set, sym, refl, ap, ◌∙◌, subst, ap₂, add-one, arith}
+use Rattle.std.proofs.Common.{◌≡◌, ℕ, zero, suc, ◌+◌, ◌-◌, ◌<◌, ◌≤◌, List, [], ◌∷◌, ◌++◌, length, take, drop, set, length-drop, sym, refl, ap, ◌∙◌, subst, ap₂, add-one, arith}
 use Rattle.std.proofs.lemmas.List.{length-set, length-take-le, take_more_set}
 use Rattle.std.proofs.lemmas.Bool.{cond-true, lt-ltb, le-leb, ltb-true, leb-true}
 use Rattle.model.specs.declared.tickets.Entity.{Entity}
@@ -9,32 +9,48 @@ use Rattle.model.specs.State.{State, added}
 use Rattle.model.specs.Laws.{Rising}
 use Rattle.model.specs.Calls.{add_answer, passed, row_checks}
 use Rattle.model.proofs.Checks.{passed_all}
-use Rattle.holdings.specs.Rows.{Filed, row_room, remove_at}
-use Rattle.holdings.proofs.Places.{blank, rising_push, rising_remove}
+use Rattle.std.specs.List.{copy_within}
+use Rattle.std.proofs.Math.Seq.{paste, take-nil}
+use Rattle.std.proofs.lemmas.List.{drop-take}
+use Rattle.std.proofs.lemmas.List.Edits.{take-paste, length-paste}
+use Rattle.holdings.specs.Filing.{Filed}
+use Rattle.holdings.specs.Rows.{row_room, remove_at}
+use Rattle.holdings.proofs.Places.{rising_push, rising_remove}
 
--- a row that takes over the next one's entity leaves that one to be removed
-pub move_up : (es : List Entity) (i : ℕ) → suc i < length es → remove_at (set es i (get_or es (suc i) blank)) (suc i) ≡ remove_at es i
-move_up [] i h = absurd (omega arith)
-move_up (e ∷ []) i h = absurd (omega arith)
-move_up (e ∷ f ∷ es) zero h = refl
-move_up (e ∷ f ∷ es) (suc i) h = ap (λ (l : List Entity). e ∷ l) (move_up (f ∷ es) i (omega arith))
+-- taking out the entity at a place leaves those before it and those after it
+removed_split : (es : List Entity) (i : ℕ) → remove_at es i ≡ take i es ++ drop (suc i) es
+removed_split [] zero = refl
+removed_split [] (suc i) = refl
+removed_split (e ∷ es) zero = refl
+removed_split (e ∷ es) (suc i) = ap (λ (l : List Entity). e ∷ l) (removed_split es i)
 
--- the front does not change where a later row is removed
-take_later : (es : List Entity) (n : ℕ) → take n (remove_at es n) ≡ take n es
-take_later [] n = refl
-take_later (e ∷ es) zero = refl
-take_later (e ∷ es) (suc n) = ap (λ (l : List Entity). e ∷ l) (take_later es n)
+take_front : (es : List Entity) (i n : ℕ) → i ≤ n → take i (take n es) ≡ take i es
+take_front [] zero n h = refl
+take_front [] (suc i) n h = ap (take (suc i)) (take-nil n)
+take_front (e ∷ es) zero n h = refl
+take_front (e ∷ es) (suc i) zero h = absurd (omega arith)
+take_front (e ∷ es) (suc i) (suc n) h = ap (λ (l : List Entity). e ∷ l) (take_front es i n (omega arith))
 
-take_removed : (es : List Entity) (i n : ℕ) → i ≤ n → take n (remove_at es i) ≡ remove_at (take (suc n) es) i
-take_removed [] i zero h = refl
-take_removed [] i (suc n) h = refl
-take_removed (e ∷ es) zero n h = refl
-take_removed (e ∷ es) (suc i) zero h = absurd (omega arith)
-take_removed (e ∷ es) (suc i) (suc n) h = ap (λ (l : List Entity). e ∷ l) (take_removed es i n (omega arith))
+-- the front of rows in which those after place i have been copied one up
+copied_up : (es : List Entity) (i m : ℕ) → suc i + m ≤ length es → take (i + m) (copy_within es (suc i) (suc i + m) i) ≡ remove_at (take (suc i + m) es) i
+copied_up es i m h =
+    let n : suc i + m - suc i ≡ m = omega arith in
+    let rest : m ≤ length (drop (suc i) es) = omega (arith, length-drop (suc i) es) in
+    ap (λ (k : ℕ). take (i + m) (paste es i (drop (suc i) es) k)) n
+    ∙ take-paste es i (drop (suc i) es) m (omega arith) rest
+    ∙ ap₂ (λ (f r : List Entity). f ++ r) (sym (take_front es i (suc i + m) (omega arith))) (sym (drop-take (suc i) m es))
+    ∙ sym (removed_split (take (suc i + m) es) i)
 
--- rows in which those after place i have moved up
-pub closed_up : (es fs : List Entity) (i last k : ℕ) → i ≤ last → k ≡ last → remove_at fs k ≡ remove_at es i → take last fs ≡ remove_at (take (suc last) es) i
-closed_up es fs i last k h q e = sym (take_later fs last) ∙ ap (λ (x : ℕ). take last (remove_at fs x)) (sym q) ∙ ap (take last) e ∙ take_removed es i last h
+pub closed_up : (es : List Entity) (i count : ℕ) → i < count → count ≤ length es → take (count - 1) (copy_within es (i + 1) count i) ≡ remove_at (take count es) i
+closed_up es i count l h =
+    let m = count - suc i in
+    let c : count ≡ suc i + m = omega arith in
+    let d : count - 1 ≡ i + m = omega arith in
+    ap₂ (λ (a b : ℕ). take a (copy_within es b count i)) d (add-one i)
+    ∙ subst (λ (n : ℕ). take (i + m) (copy_within es (suc i) n i) ≡ remove_at (take n es) i) (sym c) (copied_up es i m (omega arith))
+
+pub length_copied : (es : List Entity) (i count : ℕ) → i < count → count ≤ length es → length (copy_within es (i + 1) count i) ≡ length es
+length_copied es i count l h = length-paste es i (drop (i + 1) es) (count - (i + 1)) (omega arith) (omega (arith, length-drop (i + 1) es))
 
 -- removing past the end removes nothing
 pub remove_past : (es : List Entity) (i : ℕ) → length es ≤ i → remove_at es i ≡ es
@@ -47,18 +63,14 @@ module _ (rows : List Entity) (count next : ℕ) (filed : Filed rows count next)
   past_last i h = sym (remove_past (take count rows) i (omega (arith, length-take-le count rows filed.fits)))
 
   -- the rows that a removal leaves
-  pub filed_less : (left : List Entity) (i : ℕ) → i < count → length left ≡ length rows → take (count - 1) left ≡ remove_at (take (suc (count - 1)) rows) i
-      → Filed left (count - 1) next × (take (count - 1) left ≡ remove_at (take count rows) i)
-  filed_less left i h kept e =
-      let whole : suc (count - 1) ≡ count = omega arith in
-      let is : take (count - 1) left ≡ remove_at (take count rows) i = e ∙ ap (λ (n : ℕ). remove_at (take n rows) i) whole in (
-        record {
-          fits = omega (arith, filed.fits);
-          rising = subst (λ (es : List Entity). Rising 1 es next) (sym is) (rising_remove 1 next i (take count rows) filed.rising);
-          numbers = filed.numbers;
-        },
-        is,
-      )
+  pub filed_less : (i : ℕ) → i < count → Filed (copy_within rows (i + 1) count i) (count - 1) next
+  filed_less i h =
+      let is = closed_up rows i count h filed.fits in
+      record {
+        fits = omega (arith, filed.fits, length_copied rows i count h filed.fits);
+        rising = subst (λ (es : List Entity). Rising 1 es next) (sym is) (rising_remove 1 next i (take count rows) filed.rising);
+        numbers = filed.numbers;
+      }
 
   -- there is a row and a number more
   pub has_room : granted tt ≡ passed (row_checks (row_room (length rows)) record { next = next; entities = take count rows; tickets = λ h y. none })

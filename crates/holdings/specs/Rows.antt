@@ -1,17 +1,10 @@
 -- Rows for entities: the first of them, in number order, are taken by those that stand.
-use Rattle.std.specs.Prelude.{ℕ, zero, suc, ◌≤◌, cond, List, [], ◌∷◌, length, take, Some, None, Option, ◌==◌, nat_lt}
+use Rattle.std.specs.Prelude.{ℕ, zero, suc, cond, List, [], ◌∷◌, length, take, Some, None, Option, ◌==◌, nat_lt}
 use Rattle.std.specs.Option.{option_map}
 use Rattle.model.specs.declared.tickets.Entity.{Entity}
-use Rattle.model.specs.State.{State, Room, last_number}
+use Rattle.model.specs.State.{State, Room}
 use Rattle.model.specs.Tickets.{none}
-use Rattle.model.specs.Laws.{Rising}
 use Rattle.holdings.specs.declared.rows.Rows.{Rows}
-
--- what rows keep true: the first count are taken, and their numbers rise and lie below the next one
-pub record Filed (rows : List Entity) (count next : ℕ) : Type 0 where
-  pub fits : count ≤ length rows
-  pub rising : Rising 1 (take count rows) next
-  pub numbers : next ≤ suc last_number
 
 -- how many rows there are, and who stands in them
 abbrev pub size : Rows → ℕ
@@ -19,10 +12,6 @@ size r = length r.entities.now
 
 abbrev pub in_rows : Rows → List Entity
 in_rows r = take r.count r.entities.now
-
--- the rows of the code keep it true
-abbrev pub InOrder : Rows → Type 0
-InOrder r = Filed r.entities.now r.count r.next
 
 -- what rows mean by themselves: the next number, who stands, and no ticket
 abbrev pub roll : Rows → State

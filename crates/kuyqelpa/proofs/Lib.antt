@@ -1,3 +1,0 @@
-pub mod Digits
-pub mod Choosing
-pub mod Saying

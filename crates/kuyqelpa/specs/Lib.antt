@@ -1,5 +1,1 @@
-pub mod Numbers
-pub mod Words
-pub mod Lines
-pub mod Going
-pub mod Commands
+pub mod Knowing

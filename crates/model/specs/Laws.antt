@@ -27,11 +27,6 @@ pub record Sound (S : Scheme) (st : State) : Type 0 where
   pub by_subjects : (h y x : ℕ) (c : Bool) → holds st h y x c ≡ true → subject S st h ≡ true
   pub known : (h y x : ℕ) (c : Bool) → holds st h y x c ≡ true → x < S.rights
 
--- the standing invariant of a set-up and of a register: what their holdings keep of themselves, and a sound state
-pub record Kept (own : Type 0) (S : Scheme) (st : State) : Type 0 where
-  pub holdings : own
-  pub sound : Sound S st
-
 -- the law: of every well-formed scheme, in every room, every call and every entry of a set-up leaves a sound register sound
 abbrev pub StaysSound : Type 0
 StaysSound = (S : Scheme) → WellFormed S → (R : Room) (st : State) → Sound S st

@@ -12,5 +12,5 @@ pub use laws::{
     stays_sound,
 };
 pub use refusal::Refusal;
-pub use rules::{Part, Rule, Sight};
-pub use tickets::{Entity, Ticket, TicketSet};
+pub use rules::{DemandKey, FilterKey, Part, Rule, Sight};
+pub use tickets::{Entity, StoredSet, Ticket, TicketSet};

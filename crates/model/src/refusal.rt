@@ -2,27 +2,44 @@
 ghost use Rattle.std.specs.Prelude.{◌≡◌};
 ghost use Rattle.model.specs.Refusals.{refusal_number};
 
-use std::fmt;
+use thiserror::Error;
 
-/// Why a call is refused.
-#[derive(Clone, Copy)]
+/// Why a call is refused. It is displayed as the reason, for people.
+#[derive(Clone, Copy, Debug, PartialEq, Eq, Error)]
 pub enum Refusal {
+    #[error("no entity stands under that number")]
     NotStanding = 1,
+    #[error("that entity is an object, and only subjects hold tickets")]
     NotSubject = 2,
+    #[error("the scheme has no such right")]
     UnknownRight = 3,
+    #[error("the giver has no such ticket with the copy flag")]
     NotCopyable = 4,
+    #[error("no link holds from the giver to the taker")]
     NoLink = 5,
+    #[error("no link that holds passes this ticket")]
     NotPassed = 6,
+    #[error("the scheme does not let this ticket be demanded")]
     NotDemandable = 7,
+    #[error("the scheme has no rule for these parents and this type")]
     NoRule = 8,
+    #[error("all rows are taken")]
     RowsTaken = 9,
+    #[error("all numbers have been given")]
     NumbersSpent = 10,
+    #[error("there is no room for another pair of holder and target")]
     PairsTaken = 11,
+    #[error("the scheme has no such type")]
     UnknownKind = 12,
+    #[error("that ticket is not held")]
     NotHeld = 13,
+    #[error("a type of the scheme descends from itself")]
     Circle = 14,
+    #[error("the work table has too few rows")]
     TableTooSmall = 15,
+    #[error("the scheme file is faulty")]
     FaultyFile = 16,
+    #[error("the lent memory does not fit")]
     UnfitMemory = 17,
 }
 
@@ -32,35 +49,5 @@ impl Refusal {
         ensures { result ≡ refusal_number self }
     {
         self as u8
-    }
-
-    // The reason in words.
-    fn reason(self) -> &'static str {
-        match self {
-            Refusal::NotStanding => "no entity stands under that number",
-            Refusal::NotSubject => "that entity is an object, and only subjects hold tickets",
-            Refusal::UnknownRight => "the scheme has no such right",
-            Refusal::NotCopyable => "the giver has no such ticket with the copy flag",
-            Refusal::NoLink => "no link holds from the giver to the taker",
-            Refusal::NotPassed => "no link that holds passes this ticket",
-            Refusal::NotDemandable => "the scheme does not let this ticket be demanded",
-            Refusal::NoRule => "the scheme has no rule for these parents and this type",
-            Refusal::RowsTaken => "all rows are taken",
-            Refusal::NumbersSpent => "all numbers have been given",
-            Refusal::PairsTaken => "there is no room for another pair of holder and target",
-            Refusal::UnknownKind => "the scheme has no such type",
-            Refusal::NotHeld => "that ticket is not held",
-            Refusal::Circle => "a type of the scheme descends from itself",
-            Refusal::TableTooSmall => "the work table has too few rows",
-            Refusal::FaultyFile => "the scheme file is faulty",
-            Refusal::UnfitMemory => "the lent memory does not fit",
-        }
-    }
-}
-
-/// The reason, for people.
-impl fmt::Display for Refusal {
-    fn fmt<W: fmt::Write>(&self, f: &mut fmt::Formatter<W>) -> fmt::Result {
-        f.write_str(self.reason())
     }
 }

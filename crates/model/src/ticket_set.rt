@@ -3,7 +3,16 @@ ghost use Rattle.std.specs.Prelude.{◌≡◌, if◌then◌else◌, nat_lt};
 ghost use Rattle.model.specs.Calls.{without_right};
 ghost use Rattle.model.specs.Tickets.{tickets_of, none, empty, has, ticket_of, join, with_plain};
 
-use super::tickets::{Ticket, TicketSet};
+use super::tickets::{StoredSet, Ticket, TicketSet};
+
+/// A copyable right counts as a plain one too.
+impl From<StoredSet> for TicketSet {
+    ghost from_gives = { λ m s. tickets_of s ≡ with_plain m.plain m.copyable };
+
+    fn from(value: StoredSet) -> TicketSet {
+        TicketSet::new(value.plain, value.copyable)
+    }
+}
 
 impl TicketSet {
     /// The set with these masks. A copyable right counts as a plain one too.

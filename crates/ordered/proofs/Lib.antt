@@ -3,3 +3,4 @@ pub mod Orders
 pub mod Places
 pub mod Changes
 pub mod Values
+pub mod Filtered

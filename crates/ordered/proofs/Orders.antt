@@ -1,148 +1,145 @@
 -- Rising lists of keys: a key divides them into what is before it, its own entry, and what is after it; and they stay rising.
-use Rattle.std.proofs.Common.{◌≡◌, Bool, true, false, not, ◌⊎◌, List, [], ◌∷◌, ◌++◌, Some, None, filter, sym, refl, ap, ◌∙◌, subst, ap₂, inl, inr}
-use Rattle.std.specs.List.{AllByRecursion}
-use Rattle.std.proofs.ByRecursion.{All-weaker, all_kept_by, kept_by_passes}
-use Rattle.std.proofs.lemmas.Bool.{cases_Bool, cond-true, cond-false, both_ways, and_parts, and_from, and_left, and_right}
-use Rattle.ordered.specs.declared.key.Entry.{Entry}
-use Rattle.ordered.specs.Entries.{Order, same_key, Rising, value_of, entries_before, entries_after, put, take_out}
+use Rattle.std.proofs.Common.{◌≡◌, Bool, true, ◌⊎◌, List, [], ◌∷◌, ◌++◌, Some, None, filter, sym, refl, ap, ◌∙◌, subst, ap₂, inl, inr, arith}
+use Rattle.std.specs.List.{All}
+use Rattle.std.specs.Cmp.{IsTotalOrder}
+use Rattle.std.specs.declared.cmp.Ordering.{Ordering}
+use Rattle.std.specs.declared.cmp.Ordering.TheVariants.{Less, Equal, Greater}
+use Rattle.std.specs.Ordering.{ordering_reverse, is_lt, is_eq}
+use Rattle.std.proofs.lemmas.Cmp.{tied_back}
+use Rattle.std.proofs.lemmas.List.Elements.{All-cons, All-head, All-tail, All-append, All-weaker, All-filter, filter_passes}
+use Rattle.std.proofs.lemmas.Grind.{common_steps}
+use Rattle.std.proofs.lemmas.Bool.{cases_Bool, cond-true, cond-false}
+use Rattle.ordered.specs.declared.entry.Entry.{Entry}
+use Rattle.ordered.specs.Entries.{Order, before, Rising, value_of, entries_before, entries_after, put, take_out}
 
--- a total order
-pub record Total {K : Type 0} (before : Order K) : Type 0 where
-  pub irreflexive : (k : K) → before k k ≡ false
-  pub transitive : (j k l : K) → before j k ≡ true → before k l ≡ true → before j l ≡ true
-  pub total : (j k : K) → before j k ≡ false → before k j ≡ false → j ≡ k
+-- the three ways in which two keys compare
+pub cases_Ordering : (r : Ordering) → (r ≡ Less) ⊎ ((r ≡ Equal) ⊎ (r ≡ Greater))
+cases_Ordering Less = inl refl
+cases_Ordering Equal = inr (inl refl)
+cases_Ordering Greater = inr (inr refl)
 
-not_false : (b : Bool) → b ≡ false → not b ≡ true
-not_false b e = ap not e
+is_less : (r : Ordering) → is_lt r ≡ true → r ≡ Less
+is_less r e = grind (arith, common_steps, cases_Ordering r)
 
-not_true : (b : Bool) → b ≡ true → not b ≡ false
-not_true b e = ap not e
+pub is_equal : (r : Ordering) → is_eq r ≡ true → r ≡ Equal
+is_equal r e = grind (arith, common_steps, cases_Ordering r)
 
-from_not : (b : Bool) → not b ≡ true → b ≡ false
-from_not true e = absurd (both_ways (not true) refl e)
-from_not false e = refl
-
-module _ {K : Type 0} (before : Order K) (o : Total before) where
-  pub same_self : (k : K) → same_key before k k ≡ true
-  same_self k = and_from _ _ (not_false _ (o.irreflexive k)) (not_false _ (o.irreflexive k))
-
-  pub same_is : (j k : K) → same_key before j k ≡ true → j ≡ k
-  same_is j k e =
-      let p = and_parts (not (before j k)) (not (before k j)) e in
-      o.total j k (from_not _ p.0) (from_not _ p.1)
-
-  pub not_back : (j k : K) → before j k ≡ true → before k j ≡ false
-  not_back j k e = elim (cases_Bool (before k j)) [
-    | inl f ↦ absurd (both_ways (before j j) (o.irreflexive j) (o.transitive j k j e f))
-    | inr f ↦ f
-  ]
-
-  pub apart : (j k : K) → before j k ≡ true → same_key before j k ≡ false
-  apart j k e = and_left _ _ (not_true _ e)
-
-  pub apart_back : (j k : K) → before k j ≡ true → same_key before j k ≡ false
-  apart_back j k e = and_right (not (before j k)) _ (not_true _ e)
-
-  pub same_both : (j k : K) → before j k ≡ false → before k j ≡ false → same_key before j k ≡ true
-  same_both j k e f = and_from _ _ (not_false _ e) (not_false _ f)
-
-  -- what all keys after k come after, where k does
-  after_all : {V : Type 0} (j k : K) (es : List (Entry K V)) → before j k ≡ true → AllByRecursion (λ e. before k e.key ≡ true) es → AllByRecursion (λ e. before j e.key ≡ true) es
-  after_all {V} j k es h a = All-weaker (λ (e : Entry K V). before k e.key ≡ true) (λ (e : Entry K V). before j e.key ≡ true) (λ e q. o.transitive j k e.key h q) es a
-
-  -- what stays of a rising list rises, and so does a list before another
-  pub rising_kept : {V : Type 0} (p : Entry K V → Bool) (es : List (Entry K V)) → Rising before es → Rising before (filter p es)
+-- what stays of a rising list rises, and so does a list before another
+module _ {K V : Type 0} (cmp : Order K) where
+  pub rising_kept : (p : Entry K V → Bool) (es : List (Entry K V)) → Rising cmp es → Rising cmp (filter p es)
   rising_kept p [] r = tt
-  rising_kept {V} p (e ∷ es) r = elim (cases_Bool (p e)) [
+  rising_kept p (e ∷ es) r = elim (cases_Bool (p e)) [
     | inl t ↦
-        subst (Rising before) (sym (cond-true (p e) (e ∷ filter p es) (filter p es) t))
-        (all_kept_by p (λ (f : Entry K V). before e.key f.key ≡ true) es r.0, rising_kept p es r.1)
-    | inr f ↦ subst (Rising before) (sym (cond-false (p e) (e ∷ filter p es) (filter p es) f)) (rising_kept p es r.1)
+        subst (Rising cmp) (sym (cond-true (p e) (e ∷ filter p es) (filter p es) t)) (All-filter p (λ (f : Entry K V). cmp e.key f.key ≡ Less) es r.0, rising_kept p es r.1)
+    | inr f ↦ subst (Rising cmp) (sym (cond-false (p e) (e ∷ filter p es) (filter p es) f)) (rising_kept p es r.1)
   ]
 
-  all_both : {X : Type 0} (P : X → Type 0) (xs ys : List X) → AllByRecursion P xs → AllByRecursion P ys → AllByRecursion P (xs ++ ys)
-  all_both P [] ys a b = b
-  all_both P (x ∷ xs) ys a b = (a.0, all_both P xs ys a.1 b)
-
-  rising_append : {V : Type 0} (xs ys : List (Entry K V)) → Rising before xs → Rising before ys
-      → AllByRecursion (λ x. AllByRecursion (λ y. before x.key y.key ≡ true) ys) xs → Rising before (xs ++ ys)
+  rising_append : (xs ys : List (Entry K V)) → Rising cmp xs → Rising cmp ys → All (λ x. All (λ y. cmp x.key y.key ≡ Less) ys) xs → Rising cmp (xs ++ ys)
   rising_append [] ys r s a = s
-  rising_append {V} (x ∷ xs) ys r s a = (all_both (λ (y : Entry K V). before x.key y.key ≡ true) xs ys r.0 a.0, rising_append xs ys r.1 s a.1)
+  rising_append (x ∷ xs) ys r s a = (
+    All-append (λ (y : Entry K V). cmp x.key y.key ≡ Less) xs ys r.0 (All-head (λ (z : Entry K V). All (λ (y : Entry K V). cmp z.key y.key ≡ Less) ys) x xs a),
+    rising_append xs ys r.1 s (All-tail (λ (z : Entry K V). All (λ (y : Entry K V). cmp z.key y.key ≡ Less) ys) x xs a),
+  )
 
-  module _ {V : Type 0} (es : List (Entry K V)) (k : K) where
-    befores : AllByRecursion (λ e. before e.key k ≡ true) (entries_before before es k)
-    befores = kept_by_passes (λ e. before e.key k) es
+module _ {K : Type 0} {cmp : Order K} (o : IsTotalOrder cmp) where
+  pub greater : (j k : K) → cmp j k ≡ Less → cmp k j ≡ Greater
+  greater j k h = o.antisymm k j ∙ ap ordering_reverse h
 
-    afters : AllByRecursion (λ e. before k e.key ≡ true) (entries_after before es k)
-    afters = kept_by_passes (λ e. before k e.key) es
+  pub less : (j k : K) → cmp j k ≡ Greater → cmp k j ≡ Less
+  less j k h = o.antisymm k j ∙ ap ordering_reverse h
 
-    -- whatever is before k is before whatever is after it
-    across : AllByRecursion (λ x. AllByRecursion (λ y. before x.key y.key ≡ true) (entries_after before es k)) (entries_before before es k)
-    across =
-        All-weaker (λ (x : Entry K V). before x.key k ≡ true) (λ (x : Entry K V). AllByRecursion (λ y. before x.key y.key ≡ true) (entries_after before es k))
-        (λ x h. after_all x.key k (entries_after before es k) h afters) (entries_before before es k) befores
+  module _ {V : Type 0} where
+    abbrev pub After : K → List (Entry K V) → Type 0
+    After k es = All (λ e. cmp k e.key ≡ Less) es
 
-    pub rising_out : Rising before es → Rising before (take_out before es k)
-    rising_out r =
-        rising_append (entries_before before es k) (entries_after before es k) (rising_kept (λ e. before e.key k) es r) (rising_kept (λ e. before k e.key) es r) across
+    -- what all keys after k come after, where k does
+    pub after_all : (j k : K) (es : List (Entry K V)) → cmp j k ≡ Less → After k es → After j es
+    after_all j k es h a = All-weaker (λ (e : Entry K V). cmp k e.key ≡ Less) (λ (e : Entry K V). cmp j e.key ≡ Less) (λ e q. o.trans j k e.key h q) es a
 
-    pub rising_put : (v : V) → Rising before es → Rising before (put before es k v)
-    rising_put v r =
-        let new : Entry K V = record { key = k; value = v } in
-        rising_append (entries_before before es k) (new ∷ entries_after before es k) (rising_kept (λ e. before e.key k) es r)
-        (afters, rising_kept (λ e. before k e.key) es r)
-        (with_new (entries_before before es k) befores across)
-      where
-        with_new : (xs : List (Entry K V)) → AllByRecursion (λ e. before e.key k ≡ true) xs → AllByRecursion (λ x. AllByRecursion (λ y. before x.key y.key ≡ true) (entries_after before es k)) xs
-            → AllByRecursion (λ x. AllByRecursion (λ y. before x.key y.key ≡ true) (record { key = k; value = v } ∷ entries_after before es k)) xs
-        with_new [] a b = tt
-        with_new (x ∷ xs) a b = ((a.0, b.0), with_new xs a.1 b.1)
+    module _ (es : List (Entry K V)) (k : K) where
+      befores : All (λ e. cmp e.key k ≡ Less) (entries_before cmp es k)
+      befores =
+          All-weaker (λ (e : Entry K V). before cmp e.key k ≡ true) (λ (e : Entry K V). cmp e.key k ≡ Less) (λ e h. is_less _ h) (entries_before cmp es k)
+          (filter_passes (λ (e : Entry K V). before cmp e.key k) es)
 
-  -- where every key comes after k, all of it is after k and nothing before
-  none_before : {V : Type 0} (es : List (Entry K V)) (k : K) → AllByRecursion (λ e. before k e.key ≡ true) es → entries_before before es k ≡ []
-  none_before [] k a = refl
-  none_before (e ∷ es) k a = cond-false _ _ _ (not_back k e.key a.0) ∙ none_before es k a.1
+      afters : After k (entries_after cmp es k)
+      afters =
+          All-weaker (λ (e : Entry K V). before cmp k e.key ≡ true) (λ (e : Entry K V). cmp k e.key ≡ Less) (λ e h. is_less _ h) (entries_after cmp es k)
+          (filter_passes (λ (e : Entry K V). before cmp k e.key) es)
 
-  all_after : {V : Type 0} (es : List (Entry K V)) (k : K) → AllByRecursion (λ e. before k e.key ≡ true) es → entries_after before es k ≡ es
-  all_after [] k a = refl
-  all_after (e ∷ es) k a = cond-true _ _ _ a.0 ∙ ap (λ l. e ∷ l) (all_after es k a.1)
+      -- whatever is before k is before k's entry and whatever is after it
+      across : (ys : List (Entry K V)) → ((x : Entry K V) → cmp x.key k ≡ Less → After x.key ys) → All (λ x. After x.key ys) (entries_before cmp es k)
+      across ys f = All-weaker (λ (x : Entry K V). cmp x.key k ≡ Less) (λ (x : Entry K V). After x.key ys) f (entries_before cmp es k) befores
 
-  pub not_there : {V : Type 0} (es : List (Entry K V)) (k : K) → AllByRecursion (λ e. before k e.key ≡ true) es → value_of before es k ≡ None
-  not_there [] k a = refl
-  not_there (e ∷ es) k a = cond-false _ _ _ (apart_back e.key k a.0) ∙ not_there es k a.1
+      pub rising_out : Rising cmp es → Rising cmp (take_out cmp es k)
+      rising_out r =
+          rising_append cmp (entries_before cmp es k) (entries_after cmp es k) (rising_kept cmp (λ e. before cmp e.key k) es r) (rising_kept cmp (λ e. before cmp k e.key) es r)
+          (across (entries_after cmp es k) (λ x h. after_all x.key k (entries_after cmp es k) h afters))
 
-  -- a rising list is what is before k, then k's entry where it is there, then what is after k
-  abbrev pub Divided : {V : Type 0} → List (Entry K V) → K → Type 0
-  Divided {V} es k =
-      ((value_of before es k ≡ None) × (es ≡ take_out before es k)) ⊎ ((v : V) × (value_of before es k ≡ Some v) × (es ≡ put before es k v))
+      pub rising_put : (v : V) → Rising cmp es → Rising cmp (put cmp es k v)
+      rising_put v r =
+          let new : Entry K V = record { key = k; value = v } in
+          rising_append cmp (entries_before cmp es k) (new ∷ entries_after cmp es k) (rising_kept cmp (λ e. before cmp e.key k) es r)
+          (afters, rising_kept cmp (λ e. before cmp k e.key) es r)
+          (across (new ∷ entries_after cmp es k) (λ x h. All-cons (λ (e : Entry K V). cmp x.key e.key ≡ Less) new (entries_after cmp es k) h (after_all x.key k (entries_after cmp es k) h afters)))
 
-  pub divided : {V : Type 0} (es : List (Entry K V)) (k : K) → Rising before es → Divided es k
-  divided [] k r = inl (refl, refl)
-  divided {V} (e ∷ es) k r = elim (cases_Bool (before e.key k)) [
-    | inl t ↦
-        let front : entries_before before (e ∷ es) k ≡ e ∷ entries_before before es k = cond-true _ _ _ t in
-        let behind : entries_after before (e ∷ es) k ≡ entries_after before es k = cond-false _ _ _ (not_back e.key k t) in
-        let value : value_of before (e ∷ es) k ≡ value_of before es k = cond-false _ _ _ (apart e.key k t) in
-        elim (divided es k r.1) [
-          | inl d ↦ inl (value ∙ d.0, ap (λ l. e ∷ l) d.1 ∙ sym (ap₂ ◌++◌ front behind))
-          | inr d ↦
-              let new : Entry K V = record { key = k; value = d.0 } in
-              inr (d.0, value ∙ d.1, ap (λ l. e ∷ l) d.2 ∙ sym (ap₂ (λ p q. p ++ new ∷ q) front behind))
-        ]
-    | inr f ↦ elim (cases_Bool (before k e.key)) [
-      | inl t ↦
-          let all : AllByRecursion (λ f. before k f.key ≡ true) (e ∷ es) = (t, after_all k e.key es t r.0) in
-          inl (not_there (e ∷ es) k all, sym (ap₂ ◌++◌ (none_before (e ∷ es) k all) (all_after (e ∷ es) k all)))
-      | inr g ↦
-          let is : e.key ≡ k = o.total e.key k f g in
-          let rest : AllByRecursion (λ f. before k f.key ≡ true) es = subst (λ (j : K). AllByRecursion (λ f. before j f.key ≡ true) es) is r.0 in
-          let front : entries_before before (e ∷ es) k ≡ [] = cond-false _ _ _ f ∙ none_before es k rest in
-          let behind : entries_after before (e ∷ es) k ≡ es = cond-false _ _ _ g ∙ all_after es k rest in
-          let new : Entry K V = record { key = k; value = e.value } in
-          inr (
-            e.value,
-            cond-true _ _ _ (same_both e.key k f g),
-            ap (λ (j : K). record { key = j; value = e.value } ∷ es) is ∙ sym (ap₂ (λ p q. p ++ new ∷ q) front behind),
-          )
+    -- where every key comes after k, all of it is after k and nothing before
+    pub none_before : (es : List (Entry K V)) (k : K) → After k es → entries_before cmp es k ≡ []
+    none_before [] k a = refl
+    none_before (e ∷ es) k a =
+        cond-false _ _ _ (ap is_lt (greater k e.key (All-head (λ (f : Entry K V). cmp k f.key ≡ Less) e es a)))
+        ∙ none_before es k (All-tail (λ (f : Entry K V). cmp k f.key ≡ Less) e es a)
+
+    all_after : (es : List (Entry K V)) (k : K) → After k es → entries_after cmp es k ≡ es
+    all_after [] k a = refl
+    all_after (e ∷ es) k a =
+        cond-true _ _ _ (ap is_lt (All-head (λ (f : Entry K V). cmp k f.key ≡ Less) e es a))
+        ∙ ap (λ l. e ∷ l) (all_after es k (All-tail (λ (f : Entry K V). cmp k f.key ≡ Less) e es a))
+
+    pub not_there : (es : List (Entry K V)) (k : K) → After k es → value_of cmp es k ≡ None
+    not_there [] k a = refl
+    not_there (e ∷ es) k a =
+        cond-false _ _ _ (ap is_eq (greater k e.key (All-head (λ (f : Entry K V). cmp k f.key ≡ Less) e es a)))
+        ∙ not_there es k (All-tail (λ (f : Entry K V). cmp k f.key ≡ Less) e es a)
+
+    -- an entry that comes before k stands in front of the others before k, and k's value is among the rest
+    pub front_before : (e : Entry K V) (es : List (Entry K V)) (k : K) → cmp e.key k ≡ Less → entries_before cmp (e ∷ es) k ≡ e ∷ entries_before cmp es k
+    front_before e es k h = cond-true _ _ _ (ap is_lt h)
+
+    pub value_behind : (e : Entry K V) (es : List (Entry K V)) (k : K) → cmp e.key k ≡ Less → value_of cmp (e ∷ es) k ≡ value_of cmp es k
+    value_behind e es k h = cond-false _ _ _ (ap is_eq h)
+
+    -- keys that come after one come after another that is the same
+    pub after_same : (j k : K) (es : List (Entry K V)) → cmp j k ≡ Equal → After j es → After k es
+    after_same j k es h a = All-weaker (λ (f : Entry K V). cmp j f.key ≡ Less) (λ (f : Entry K V). cmp k f.key ≡ Less) (λ f q. sym (o.congr j k f.key h) ∙ q) es a
+
+    -- a rising list is what is before k, then k's entry where it is there, then what is after k
+    pub record Own (es : List (Entry K V)) (k : K) : Type 0 where
+      pub entry : Entry K V
+      pub same : cmp entry.key k ≡ Equal
+      pub value_is : value_of cmp es k ≡ Some entry.value
+      pub parts : es ≡ entries_before cmp es k ++ entry ∷ entries_after cmp es k
+
+    pub divided : (es : List (Entry K V)) (k : K) → Rising cmp es → ((value_of cmp es k ≡ None) × (es ≡ take_out cmp es k)) ⊎ Own es k
+    divided [] k r = inl (refl, refl)
+    divided (e ∷ es) k r = elim (cases_Ordering (cmp e.key k)) [
+      | inl h ↦
+          let front : entries_before cmp (e ∷ es) k ≡ e ∷ entries_before cmp es k = front_before e es k h in
+          let behind : entries_after cmp (e ∷ es) k ≡ entries_after cmp es k = cond-false _ _ _ (ap is_lt (greater e.key k h)) in
+          elim (divided es k r.1) [
+            | inl d ↦ inl (value_behind e es k h ∙ d.0, ap (λ l. e ∷ l) d.1 ∙ sym (ap₂ ◌++◌ front behind))
+            | inr d ↦
+                inr record { entry = d.entry; same = d.same; value_is = value_behind e es k h ∙ d.value_is; parts = ap (λ l. e ∷ l) d.parts ∙ sym (ap₂ (λ p q. p ++ d.entry ∷ q) front behind) }
+          ]
+      | inr n ↦ elim n [
+        | inl h ↦
+            let rest : After k es = after_same e.key k es h r.0 in
+            let front : entries_before cmp (e ∷ es) k ≡ [] = cond-false _ _ _ (ap is_lt h) ∙ none_before es k rest in
+            let behind : entries_after cmp (e ∷ es) k ≡ es = cond-false _ _ _ (ap is_lt (tied_back o e.key k h)) ∙ all_after es k rest in
+            inr record { entry = e; same = h; value_is = cond-true _ _ _ (ap is_eq h); parts = sym (ap₂ (λ p q. p ++ e ∷ q) front behind) }
+        | inr h ↦
+            let first : cmp k e.key ≡ Less = less e.key k h in
+            let all : After k (e ∷ es) = All-cons (λ (f : Entry K V). cmp k f.key ≡ Less) e es first (after_all k e.key es first r.0) in
+            inl (not_there (e ∷ es) k all, sym (ap₂ ◌++◌ (none_before (e ∷ es) k all) (all_after (e ∷ es) k all)))
+      ]
     ]
-  ]

@@ -1,10 +1,9 @@
 //! Lists of keys with values, in lent memory and in rising order of the keys. Nothing here knows what the keys are for.
 #![tactic(auto)]
 
-mod key;
+mod entry;
+mod front;
 mod list;
-mod search;
-mod shift;
 
-pub use key::{Entry, Full, Keep, Key};
+pub use entry::{Entry, Full};
 pub use list::OrderedList;

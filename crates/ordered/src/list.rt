@@ -1,23 +1,29 @@
 //! The list.
-ghost use Rattle.std.specs.Prelude.{◌≡◌, [], length, is_ok, if◌then◌else◌};
-ghost use Rattle.ordered.specs.Entries.{value_of, put, take_out, keep};
-ghost use Rattle.ordered.specs.Lists.{InOrder, places, listed, location, has_place};
+ghost use Rattle.std.specs.Prelude.{◌≤◌, length, take};
+ghost use Rattle.ordered.specs.Entries.{Rising, Rising-prop};
 
-use super::key::{Entry, Full, Keep, Key};
-use super::search::{find_in, locate};
-use super::shift::{replace_at, retain_in, shift_in, shift_out};
+use super::entry::{Entry, Full};
+use super::front::retain_in_front;
 
 /// Keys with values in rising order of the keys, in lent memory.
+// The memory is lent, so the entries are counted beside it.
 #[derive(Drop)]
-pub struct OrderedList<'e, K, V> {
+pub struct OrderedList<'e, K: Ord + Copy, V: Copy> {
     entries: &'e mut [Entry<K, V>],
     count: usize,
+    ghost fits: { count ≤ length entries.now },
+    ghost rising: { Rising K.Ord.cmp (take count entries.now) } by { Rising-prop K.Ord.cmp (take count entries.now) },
 }
 
-impl<'e, K: Key, V: Copy> OrderedList<'e, K, V> {
+impl<'e, K: Ord + Copy, V: Copy> OrderedList<'e, K, V> {
+    ghost use Rattle.std.specs.Prelude.{◌≡◌, ◌↔◌, IsTrue, [], length, is_ok, if◌then◌else◌};
+    ghost use Rattle.std.specs.List.Sorted.{IsSearchInRange};
+    ghost use Rattle.std.specs.List.Retain.{IsFiltered};
+    ghost use Rattle.ordered.specs.Entries.{AtKey, Answers, value_of, put, take_out, keep};
+    ghost use Rattle.ordered.specs.Lists.{places, listed, location, has_place};
+
     /// A list with no entry, whatever the memory held.
     pub fn new(entries: &'e mut [Entry<K, V>]) -> OrderedList<'e, K, V>
-        ensures order { InOrder K.Key.before result }
         ensures kept { places result ≡ length entries.old }
         ensures listed { listed result ≡ [] }
     {
@@ -33,37 +39,41 @@ impl<'e, K: Key, V: Copy> OrderedList<'e, K, V> {
 
     /// How many entries there are.
     pub fn len(&self) -> usize
-        requires { InOrder K.Key.before self.now }
         ensures { result ≡ length (listed self.now) }
     {
         self.count
     }
 
+    /// Whether there is no entry.
+    pub fn is_empty(&self) -> bool
+        ensures { IsTrue result ↔ (listed self.now ≡ []) }
+    {
+        self.count == 0
+    }
+
     /// The value of a key, or none where the key is not in the list.
     pub fn find(&self, key: K) -> Option<V>
-        requires { InOrder K.Key.before self.now }
-        ensures { result ≡ value_of K.Key.before (listed self.now) key }
+        ensures { result ≡ value_of K.Ord.cmp (listed self.now) key }
     {
-        find_in(&*self.entries, self.count, key)
+        let place = self.place(key).ok()?;
+        Some(self.entries[place].value)
     }
 
     /// Puts a value under a key, in place of the one that was there. Refused where the key is new and every place is taken.
     pub fn put(&mut self, key: K, value: V) -> Result<(), Full>
-        requires { InOrder K.Key.before self.old }
-        ensures order { InOrder K.Key.before self.new }
         ensures kept { places self.new ≡ places self.old }
-        ensures answer { is_ok result ≡ has_place K.Key.before (listed self.old) (places self.old) key }
-        ensures listed { listed self.new ≡ (if is_ok result then put K.Key.before (listed self.old) key value else listed self.old) }
+        ensures answer { is_ok result ≡ has_place K.Ord.cmp (listed self.old) (places self.old) key }
+        ensures listed { listed self.new ≡ (if is_ok result then put K.Ord.cmp (listed self.old) key value else listed self.old) }
     {
-        let count = self.count;
         match self.place(key) {
-            Ok(place) => replace_at(&mut *self.entries, place, Entry { key, value }),
+            Ok(place) => self.entries[place] = Entry { key, value },
             Err(place) => {
-                if count == self.entries.len() {
+                if self.count == self.entries.len() {
                     return Err(Full);
                 }
-                shift_in(&mut *self.entries, place, count, Entry { key, value });
-                self.count = count + 1;
+                self.entries[self.count] = Entry { key, value };
+                self.entries[place..=self.count].rotate_right(1);
+                self.count += 1;
             }
         }
         Ok(())
@@ -71,32 +81,27 @@ impl<'e, K: Key, V: Copy> OrderedList<'e, K, V> {
 
     /// Takes a key out, where it is in the list.
     pub fn remove(&mut self, key: K)
-        requires { InOrder K.Key.before self.old }
-        ensures order { InOrder K.Key.before self.new }
         ensures kept { places self.new ≡ places self.old }
-        ensures listed { listed self.new ≡ take_out K.Key.before (listed self.old) key }
+        ensures listed { listed self.new ≡ take_out K.Ord.cmp (listed self.old) key }
     {
-        let count = self.count;
         if let Ok(place) = self.place(key) {
-            shift_out(&mut *self.entries, place, count);
-            self.count = count - 1;
+            self.entries[place..self.count].rotate_left(1);
+            self.count -= 1;
         }
     }
 
-    /// Takes out every key that does not stay, in one pass.
-    pub fn retain<T: Keep<K>>(&mut self, test: &T)
-        requires { InOrder K.Key.before self.old }
-        ensures order { InOrder K.Key.before self.new }
+    /// Takes out every key at which `keeps` answers `false`, in one pass.
+    pub fn retain<F: Fn(K) -> bool>(&mut self, keeps: F)
+        requires { F.IsAlwaysCallable keeps }
         ensures kept { places self.new ≡ places self.old }
-        ensures listed { listed self.new ≡ keep (T.Keep.keeps test.now) (listed self.old) }
+        ensures filtered { IsFiltered (AtKey (F.post keeps)) tt (listed self.old) (listed self.new) }
+        ensures listed { (test : K → _) → Answers (F.post keeps) test → listed self.new ≡ keep test (listed self.old) }
     {
-        let count = self.count;
-        self.count = retain_in(&mut *self.entries, count, test);
+        self.count = retain_in_front(&mut self.entries[..self.count], keeps);
     }
 
     /// Takes every entry out.
     pub fn clear(&mut self)
-        ensures order { InOrder K.Key.before self.new }
         ensures kept { places self.new ≡ places self.old }
         ensures listed { listed self.new ≡ [] }
     {
@@ -105,9 +110,9 @@ impl<'e, K: Key, V: Copy> OrderedList<'e, K, V> {
 
     // Where a key is, or else where it would go.
     fn place(&self, key: K) -> Result<usize, usize>
-        requires { InOrder K.Key.before self.now }
-        ensures { result ≡ location K.Key.before (listed self.now) key }
+        ensures within { IsSearchInRange result self.now.count }
+        ensures location { result ≡ location K.Ord.cmp (listed self.now) key }
     {
-        locate(&*self.entries, self.count, key)
+        self.entries[..self.count].binary_search_by_key(&key, |entry| entry.key)
     }
 }

@@ -1,3 +1,4 @@
 pub mod Digits
 pub mod Choosing
 pub mod Saying
+pub mod Cutting

@@ -1,9 +1,10 @@
 -- Taking a ticket's word apart: there is one way only.
-use Rattle.std.proofs.Common.{◌≡◌, ℕ, Bool, true, false, List, [], ◌∷◌, ◌++◌, length, Some, None, Option, sym, refl, ap, ◌∙◌, append-nil, arith, lit<, length-append, Bor, MatchOption}
+use Rattle.std.proofs.Common.{◌≡◌, ℕ, Bool, true, false, List, [], ◌∷◌, ◌++◌, length, Some, None, Option, sym, refl, ap, ◌∙◌, append-nil, arith, lit<, length-append, Bor, MatchOption, get_or, ◌<◌, suc, not}
+use Rattle.std.specs.Bool.{then_some}
 use Rattle.std.proofs.lemmas.Str.Pattern.{IsSplitOnceResult, split_after}
 use Rattle.protocol.specs.declared.words.TicketFor.{TicketFor}
 use Rattle.protocol.specs.Numbers.{number_of}
-use Rattle.protocol.specs.Words.{right_of, flag, Says}
+use Rattle.protocol.specs.Words.{right_of, flag, Says, SaysPlain}
 use Rattle.protocol.proofs.Digits.{digits_end, not_number, number_has_no}
 use Rattle.protocol.proofs.Choosing.{otherwise}
 
@@ -65,9 +66,31 @@ module _ {w : List ℕ} {t : TicketFor} (said : Says w t) where
   pub has_right : (x : Bor (List ℕ) × Bor (List ℕ)) → IsSplitOnceResult 47 w (Some x) → (letter : List ℕ) (copy : Bool) → x.1.now ≡ letter ++ flag copy → (copy ≡ false → (front : List ℕ) → x.1.now ≡ front ++ flag true → ⊥) → None ≡ right_of letter → ⊥
   has_right x h letter copy whole cut e = apart said.right letter t.ticket.copy copy (slash (Some x) h).1 whole cut said.right_is e
 
-  pub has_plain_right : t.ticket.copy ≡ false → (x : Bor (List ℕ) × Bor (List ℕ)) → IsSplitOnceResult 47 w (Some x) → None ≡ right_of x.1.now → ⊥
-  has_plain_right plain x h e =
-      let same = ap right_of ((slash (Some x) h).1 ∙ ap (λ copy. said.right ++ flag copy) plain ∙ append-nil said.right) in
-      let is = said.right_is in
-      let z : ◌≡◌ {A = ℕ} 0 1 = cc in
-      omega arith
+-- a text is cut in one way at a byte that is not in front
+same_rest : (c : ℕ) (a b x y : List ℕ) → a ++ (c ∷ x) ≡ b ++ (c ∷ y) → ((i : ℕ) → i < length a → get_or a i 0 ≡ c → ⊥) → ((i : ℕ) → i < length b → get_or b i 0 ≡ c → ⊥) → x ≡ y
+same_rest c [] [] x y e p q = cc
+same_rest c [] (z ∷ b) x y e p q = absurd (q 0 (omega arith) cc)
+same_rest c (z ∷ a) [] x y e p q = absurd (p 0 (omega arith) cc)
+same_rest c (z ∷ a) (v ∷ b) x y e p q =
+    let e' : a ++ (c ∷ x) ≡ b ++ (c ∷ y) = cc in
+    same_rest c a b x y e' (λ i h k. p (suc i) (omega arith) k) (λ i h k. q (suc i) (omega arith) k)
+
+-- a word that says a ticket with the copy flag says none without it
+flag_once : {w : List ℕ} {t u : TicketFor} → Says w t → t.ticket.copy ≡ true → SaysPlain w u → ⊥
+flag_once {w} {t} {u} said flagged plain =
+    let other : Says w u = plain.0 in
+    let rest : said.right ++ flag t.ticket.copy ≡ other.right ++ flag u.ticket.copy =
+    same_rest 47 said.number other.number _ _ (sym said.parts ∙ other.parts) (number_has_no 47 refl said.number _ said.target) (number_has_no 47 refl other.number _ other.target)
+    in
+    let longer : said.right ++ flag true ≡ other.right ++ flag false = ap (λ b. said.right ++ flag b) (sym flagged) ∙ rest ∙ ap (λ b. other.right ++ flag b) plain.1 in
+    let none : right_of other.right ≡ None = ap right_of (sym (append-nil other.right) ∙ sym longer) ∙ ends_in_c said.right in
+    let some = other.right_is in
+    cc
+
+-- where a word says a ticket, it says it plainly just where the flag is not set
+pub plain_of : (w : List ℕ) (t : TicketFor) → Says w t → MatchOption (then_some (not t.ticket.copy) t) ((u : TicketFor) → SaysPlain w u → ⊥) (λ u. SaysPlain w u)
+plain_of w t said = go t.ticket.copy refl
+  where
+    go : (copy : Bool) → t.ticket.copy ≡ copy → MatchOption (then_some (not copy) t) ((u : TicketFor) → SaysPlain w u → ⊥) (λ u. SaysPlain w u)
+    go true e = λ u plain. flag_once said e plain
+    go false e = (said, e)

@@ -1,13 +1,14 @@
 -- The lines that commands are answered with.
 use Rattle.std.specs.Prelude.{ℕ, Bool, true, false, List, ◌++◌, codes, decimal}
 use Rattle.model.specs.Refusals.{Answer as Told, granted, refused, refusal_number}
+use Rattle.scheme_file.specs.Faults.{Fault, numbers}
 use Rattle.protocol.specs.declared.answer.Answer.{Answer}
 use Rattle.protocol.specs.declared.answer.Answer.TheVariants.{Done, Entered, Linked, Granted, Created, Dropped, Retired, Yes, No, Refused, Faulty, End, Error}
 
--- a scheme file is refused: layer, cause, block and record of its fault
-abbrev pub faulty_line : ℕ → ℕ → ℕ → ℕ → List ℕ
-faulty_line layer cause block place =
-    codes "refused 16 layer " ++ (decimal layer ++ (codes " cause " ++ (decimal cause ++ (codes " block " ++ (decimal block ++ (codes " record " ++ decimal place))))))
+-- a scheme file is refused: the layer, the cause, the block and the record of its fault
+abbrev pub fault_line : Fault → List ℕ
+fault_line f =
+    codes "refused 16 layer " ++ (decimal f.layer ++ (codes " cause " ++ (decimal f.cause ++ (codes " block " ++ (decimal f.block ++ (codes " record " ++ decimal f.place))))))
 
 -- what an answer of the program is printed as
 abbrev pub line : Answer → List ℕ
@@ -21,7 +22,7 @@ line Retired = codes "retired"
 line Yes = codes "yes"
 line No = codes "no"
 line (Refused e) = codes "refused " ++ decimal (refusal_number e)
-line (Faulty layer cause block place) = faulty_line layer cause block place
+line (Faulty fault) = fault_line (numbers fault)
 line End = codes "end"
 line Error = codes "error"
 

@@ -1,6 +1,8 @@
 -- Which words say which command.
-use Rattle.std.specs.Prelude.{◌≡◌, ℕ, List, Some, None, codes, Option, MatchOption}
+use Rattle.std.specs.Prelude.{◌≡◌, ℕ, ◌≤◌, List, [], ◌∷◌, length, Some, None, codes, Option, MatchOption, slice_get}
 use Rattle.std.specs.Option.{option_map}
+use Rattle.protocol.specs.declared.command.Command.{Command}
+use Rattle.protocol.specs.declared.command.Command.TheVariants as command
 use Rattle.protocol.specs.declared.command.Start.{Start}
 use Rattle.protocol.specs.declared.command.Start.TheVariants as start
 use Rattle.protocol.specs.declared.command.Entry.{Entry}
@@ -13,6 +15,10 @@ use Rattle.protocol.specs.Words.{kind_of, Says, SaysPlain}
 -- there is a word, and this holds of it
 abbrev Is : Option (List ℕ) → (List ℕ → Type 0) → Type 0
 Is word P = MatchOption word ⊥ P
+
+-- the result has this property, or nothing has it
+abbrev pub Tells : {X : Type 0} → Option X → (X → Type 0) → Type 0
+Tells {X} result P = MatchOption result ((x : X) → P x → ⊥) P
 
 -- a name, and the words that may follow it, say a command: one that starts over
 abbrev pub MeansStart : List ℕ → List ℕ → Option (List ℕ) → Start → Type 0
@@ -35,3 +41,15 @@ MeansCall name first second third (call.Create k a b) = (name ≡ codes "create"
 MeansCall name first second third (call.Drop a t) = (name ≡ codes "drop") × (number_of first ≡ Some a) × Is second (λ w. SaysPlain w t) × (third ≡ None)
 MeansCall name first second third (call.Retire y) = (name ≡ codes "retire") × (number_of first ≡ Some y) × (second ≡ None) × (third ≡ None)
 MeansCall name first second third (call.Ask a t) = (name ≡ codes "ask") × (number_of first ≡ Some a) × Is second (λ w. Says w t) × (third ≡ None)
+
+-- any command
+abbrev pub Means : List ℕ → Option (List ℕ) → Option (List ℕ) → Option (List ℕ) → Command → Type 0
+Means name first second third (command.Start s) = Is first (λ w. MeansStart name w second s) × (third ≡ None)
+Means name first second third (command.Entry e) = MeansEntry name first second e × (third ≡ None)
+Means name first second third (command.Call c) = Is first (λ w. MeansCall name w second third c)
+Means name first second third command.Show = (name ≡ codes "show") × (first ≡ None) × (second ≡ None) × (third ≡ None)
+
+-- the words of a line say a command: a name, and at most three words that follow it
+abbrev pub WordsSay : List (List ℕ) → Command → Type 0
+WordsSay [] c = ⊥
+WordsSay (name ∷ words) c = Means name (slice_get words 0) (slice_get words 1) (slice_get words 2) c × (length words ≤ 3)

@@ -1,96 +1,49 @@
 //! The answers to commands: the line that other programs read, and the sentence for people.
-ghost use Rattle.std.specs.Prelude.{◌≡◌, Some, codes};
-ghost use Rattle.model.specs.Refusals.{told};
-ghost use Rattle.protocol.specs.Answers.{line, done_line, number_line, ask_line};
+ghost use Rattle.std.specs.Prelude.{◌≡◌, Some};
+ghost use Rattle.protocol.specs.declared.answer.Answer.TheVariants.{Refused, Faulty};
+ghost use Rattle.protocol.specs.Answers.{line};
 
 use super::command::{Call, Command, Entry, Start};
-use super::names::KindName;
+use super::names::kind_name;
 use model::Refusal;
+use scheme_file::{FaultNumbers, FileFault};
 use std::fmt;
 
 /// What a command is answered.
-#[derive(Clone, Copy)]
+#[derive(Clone, Copy, Debug, PartialEq, Eq)]
 pub enum Answer {
     Done,
-    Entered {
-        number: u32,
-    },
+    Entered { number: u32 },
     /// A copy was granted by a link.
-    Linked {
-        link: u8,
-    },
+    Linked { link: u8 },
     Granted,
-    Created {
-        number: u32,
-    },
+    Created { number: u32 },
     Dropped,
     Retired,
     Yes,
     No,
     Refused(Refusal),
-    /// A scheme file is refused: the layer of its fault (1 file, 2 block, 3 record), the cause, the block and the record.
-    Faulty {
-        layer: u8,
-        cause: u8,
-        block: u8,
-        place: u8,
-    },
+    /// A scheme file is refused.
+    Faulty(FileFault),
     /// Everything has been shown.
     End,
     /// The line is malformed, or its command does not belong here.
     Error,
 }
 
-impl Answer {
-    /// The answer to a call that gives nothing back: this one where it is granted.
-    pub fn unless_refused(self, res: Result<(), Refusal>) -> Answer
-        ensures { line result ≡ done_line (line self) (told res) }
-    {
-        match res {
-            Ok(()) => self,
-            Err(refusal) => Answer::Refused(refusal),
-        }
-    }
+impl From<Refusal> for Answer {
+    ghost from_gives = { λ refusal a. a ≡ Refused refusal };
 
-    /// The answer to an entry.
-    pub fn entered(res: Result<u32, Refusal>) -> Answer
-        ensures { line result ≡ number_line (codes "entered ") (told res) }
-    {
-        match res {
-            Ok(number) => Answer::Entered { number },
-            Err(refusal) => Answer::Refused(refusal),
-        }
+    fn from(value: Refusal) -> Answer {
+        Answer::Refused(value)
     }
+}
 
-    /// The answer to a copy.
-    pub fn linked(res: Result<u8, Refusal>) -> Answer
-        ensures { line result ≡ number_line (codes "granted link ") (told res) }
-    {
-        match res {
-            Ok(link) => Answer::Linked { link },
-            Err(refusal) => Answer::Refused(refusal),
-        }
-    }
+impl From<FileFault> for Answer {
+    ghost from_gives = { λ fault a. a ≡ Faulty fault };
 
-    /// The answer to a creation.
-    pub fn created(res: Result<u32, Refusal>) -> Answer
-        ensures { line result ≡ number_line (codes "created ") (told res) }
-    {
-        match res {
-            Ok(number) => Answer::Created { number },
-            Err(refusal) => Answer::Refused(refusal),
-        }
-    }
-
-    /// The answer to a question.
-    pub fn asked(res: Result<bool, Refusal>) -> Answer
-        ensures { line result ≡ ask_line (told res) }
-    {
-        match res {
-            Ok(true) => Answer::Yes,
-            Ok(false) => Answer::No,
-            Err(refusal) => Answer::Refused(refusal),
-        }
+    fn from(value: FileFault) -> Answer {
+        Answer::Faulty(value)
     }
 }
 
@@ -113,82 +66,47 @@ impl fmt::Display for Answer {
                 let number = refusal.number();
                 write!(f, "refused {number}")
             }
-            Answer::Faulty {
-                layer,
-                cause,
-                block,
-                place,
-            } => write!(
-                f,
-                "refused 16 layer {layer} cause {cause} block {block} record {place}"
-            ),
+            Answer::Faulty(fault) => {
+                let FaultNumbers {
+                    layer,
+                    cause,
+                    block,
+                    place,
+                } = fault.numbers();
+                write!(
+                    f,
+                    "refused 16 layer {layer} cause {cause} block {block} record {place}"
+                )
+            }
             Answer::End => f.write_str("end"),
             Answer::Error => f.write_str("error"),
         }
     }
 }
 
-/// What is told of a line that says no command.
-pub const MALFORMED: &str = "This line says no command. Nothing has changed.";
-
-/// A command with its answer: to be told in a sentence.
-#[derive(Clone, Copy)]
+/// A line's command, or none where it says none, with its answer: to be told in a sentence.
+#[derive(Clone, Copy, Debug, PartialEq, Eq)]
 pub struct Note<'a> {
-    pub command: Command<'a>,
+    pub command: Option<Command<'a>>,
     pub answer: Answer,
 }
 
 impl fmt::Display for Note<'_> {
     fn fmt<W: fmt::Write>(&self, f: &mut fmt::Formatter<W>) -> fmt::Result {
-        match self.answer {
-            Answer::Refused(refusal) => write!(f, "Refused: {refusal}. Nothing has changed."),
-            Answer::Faulty {
-                layer,
-                cause,
-                block,
-                place,
-            } => faulty(layer, cause, block, place, f),
-            Answer::Error => f.write_str(match self.command {
-                Command::Start(Start::File { .. }) =>
-                    "This file cannot be read. Nothing has changed.",
-                _ => "This command does not belong here. Nothing has changed.",
-            }),
-            answer => granted(self.command, answer, f),
+        match (self.answer, self.command) {
+            (Answer::Refused(refusal), _) => write!(f, "Refused: {refusal}. Nothing has changed."),
+            (Answer::Faulty(fault), _) => write!(f, "Refused: {fault}. Nothing has changed."),
+            (Answer::Error, None) => f.write_str("This line says no command. Nothing has changed."),
+            (Answer::Error, Some(Command::Start(Start::File { .. }))) => {
+                f.write_str("This file cannot be read. Nothing has changed.")
+            }
+            (Answer::Error, Some(_)) => f.write_str(
+                "This command does not belong here. Nothing has changed.",
+            ),
+            (answer, Some(command)) => granted(command, answer, f),
+            (_, None) => Ok(()),
         }
     }
-}
-
-// Why a scheme file is refused, by its cause.
-fn reason(cause: u8) -> &'static str {
-    match cause {
-        1 => "its length is not that of 1 to 128 blocks of 512 bytes",
-        2 => "its check does not match its bytes",
-        3 => "its number is not its place, or its last mark is wrong",
-        4 => "it says more than 15 records, or a spare byte is not zero",
-        5 => "its tag is unknown, or lower than the tag before",
-        6 => "a field is not as its tag says or not declared, or an unused byte is not zero",
-        7 => "another record has the same key",
-        8 => "a right is copyable and not plain",
-        _ => "an object gets tickets",
-    }
-}
-
-// Where and why a scheme file is refused.
-fn faulty<W: fmt::Write>(
-    layer: u8,
-    cause: u8,
-    block: u8,
-    place: u8,
-    f: &mut fmt::Formatter<W>,
-) -> fmt::Result {
-    f.write_str("Refused: ")?;
-    match layer {
-        1 => f.write_str("the scheme file")?,
-        2 => write!(f, "block {block} of the scheme file")?,
-        _ => write!(f, "record {place} of block {block} of the scheme file")?,
-    }
-    let reason = reason(cause);
-    write!(f, " is faulty, since {reason}. Nothing has changed.")
 }
 
 // What a granted command did.
@@ -230,7 +148,7 @@ and a target, and each pair with tickets takes one."
 fn entered<W: fmt::Write>(entry: Entry, answer: Answer, f: &mut fmt::Formatter<W>) -> fmt::Result {
     match (entry, answer) {
         (Entry::Enter { kind }, Answer::Entered { number }) => {
-            let name = KindName(kind);
+            let name = kind_name(kind);
             write!(
                 f,
                 "Entity {number} stands in the register now. Its type is {name}."
@@ -263,7 +181,7 @@ fn called<W: fmt::Write>(call: Call, answer: Answer, f: &mut fmt::Formatter<W>) 
             "The rules give this ticket to entity {demander} for the asking. It now holds {ticket}."
         ),
         (Call::Create { kind, .. }, Answer::Created { number }) => {
-            let name = KindName(kind);
+            let name = kind_name(kind);
             write!(
                 f,
                 "Entity {number} has been created, with the tickets that the rules give. Its type is {name}."

@@ -1,13 +1,13 @@
 //! The commands of a script, one to a line.
-ghost use Rattle.std.specs.Prelude.{IfSome, Some, None};
 ghost use Rattle.std.specs.Option.{option_map};
-ghost use Rattle.protocol.specs.Commands.{MeansStart, MeansEntry, MeansCall};
+ghost use Rattle.protocol.specs.Commands.{MeansStart, MeansEntry, MeansCall, Means, WordsSay, Tells};
+ghost use Rattle.protocol.specs.Scripts.{words_of};
 
 use super::script::without_comment;
 use super::words::{TicketFor, kind, number, plain_ticket, ticket};
 
 /// A command.
-#[derive(Clone, Copy)]
+#[derive(Clone, Copy, Debug, PartialEq, Eq)]
 pub enum Command<'a> {
     /// One that starts over. It may come at any time.
     Start(Start<'a>),
@@ -20,7 +20,7 @@ pub enum Command<'a> {
 }
 
 /// A command that starts over.
-#[derive(Clone, Copy)]
+#[derive(Clone, Copy, Debug, PartialEq, Eq)]
 pub enum Start<'a> {
     /// `scheme card`: chooses the card scheme.
     Card,
@@ -33,7 +33,7 @@ pub enum Start<'a> {
 }
 
 /// A command of a set-up.
-#[derive(Clone, Copy)]
+#[derive(Clone, Copy, Debug, PartialEq, Eq)]
 pub enum Entry {
     /// `enter TYPE`: enters an entity.
     Enter { kind: u8 },
@@ -44,7 +44,7 @@ pub enum Entry {
 }
 
 /// A command of an open register.
-#[derive(Clone, Copy)]
+#[derive(Clone, Copy, Debug, PartialEq, Eq)]
 pub enum Call {
     /// `copy A B TICKET`: copies a ticket from entity A to entity B.
     Copy {
@@ -80,7 +80,9 @@ pub enum Call {
 }
 
 /// The command that a line says, or none where the line is malformed.
-pub fn parse(line: &str) -> Option<Command> {
+pub fn parse(line: &str) -> Option<Command>
+    ensures { Tells result (λ c. WordsSay (words_of line.now) c) }
+{
     let mut words = without_comment(line).split_ascii_whitespace();
     let name = words.next()?;
     let first = words.next();
@@ -89,23 +91,34 @@ pub fn parse(line: &str) -> Option<Command> {
     if words.next().is_some() {
         return None;
     }
-    if let Some(third) = third {
-        return Some(Command::Call(read_long_call(name, first?, second?, third)?));
-    }
-    match name {
-        "scheme" | "cells" | "list" => Some(Command::Start(read_start(name, first?, second)?)),
-        "enter" | "place" | "open" => Some(Command::Entry(read_entry(name, first, second)?)),
-        "show" => match first {
-            None => Some(Command::Show),
-            Some(_) => None,
-        },
-        _ => Some(Command::Call(read_short_call(name, first?, second)?)),
+    read(name, first, second, third)
+}
+
+// The command that up to four words say.
+fn read<'a>(
+    name: &str,
+    first: Option<&'a str>,
+    second: Option<&'a str>,
+    third: Option<&str>,
+) -> Option<Command<'a>>
+    ensures { Tells result (λ c. Means name.now (option_map (λ x. x.now) first.entry) (option_map (λ x. x.now) second.entry) (option_map (λ x. x.now) third.entry) c) }
+{
+    match (name, first, third) {
+        ("scheme" | "cells" | "list", Some(first), None) => {
+            Some(Command::Start(read_start(name, first, second)?))
+        }
+        ("enter" | "place" | "open", _, None) => {
+            Some(Command::Entry(read_entry(name, first, second)?))
+        }
+        ("show", None, None) if second.is_none() => Some(Command::Show),
+        (_, Some(first), _) => Some(Command::Call(read_call(name, first, second, third)?)),
+        _ => None,
     }
 }
 
 // The command that two or three words say, where it starts over.
 fn read_start<'a>(name: &str, first: &'a str, second: Option<&'a str>) -> Option<Start<'a>>
-    ensures { IfSome result (λ c. MeansStart name.now first.now (option_map (λ x. x.now) second.entry) c) }
+    ensures { Tells result (λ c. MeansStart name.now first.now (option_map (λ x. x.now) second.entry) c) }
 {
     match (name, first, second) {
         ("scheme", "card", None) => Some(Start::Card),
@@ -123,7 +136,7 @@ fn read_start<'a>(name: &str, first: &'a str, second: Option<&'a str>) -> Option
 
 // The command of a set-up that up to three words say.
 fn read_entry(name: &str, first: Option<&str>, second: Option<&str>) -> Option<Entry>
-    ensures { IfSome result (λ c. MeansEntry name.now (option_map (λ x. x.now) first.entry) (option_map (λ x. x.now) second.entry) c) }
+    ensures { Tells result (λ c. MeansEntry name.now (option_map (λ x. x.now) first.entry) (option_map (λ x. x.now) second.entry) c) }
 {
     match (name, first, second) {
         ("enter", Some(word), None) => Some(Entry::Enter { kind: kind(word)? }),
@@ -136,49 +149,40 @@ fn read_entry(name: &str, first: Option<&str>, second: Option<&str>) -> Option<E
     }
 }
 
-// The call that two or three words say.
-fn read_short_call(name: &str, first: &str, second: Option<&str>) -> Option<Call>
-    ensures { IfSome result (λ c. MeansCall name.now first.now (option_map (λ x. x.now) second.entry) None c) }
+// The call that two to four words say.
+fn read_call(name: &str, first: &str, second: Option<&str>, third: Option<&str>) -> Option<Call>
+    ensures { Tells result (λ c. MeansCall name.now first.now (option_map (λ x. x.now) second.entry) (option_map (λ x. x.now) third.entry) c) }
 {
-    match (name, second) {
-        ("demand", Some(word)) => Some(Call::Demand {
+    match (name, second, third) {
+        ("copy", Some(taker), Some(word)) => Some(Call::Copy {
+            giver: number(first)?,
+            taker: number(taker)?,
+            ticket: ticket(word)?,
+        }),
+        ("demand", Some(word), None) => Some(Call::Demand {
             demander: number(first)?,
             ticket: ticket(word)?,
         }),
-        ("create", Some(parent)) => Some(Call::Create {
+        ("create", Some(parent), None) => Some(Call::Create {
             kind: kind(first)?,
             parent: number(parent)?,
             second: None,
         }),
-        ("drop", Some(word)) => Some(Call::Drop {
+        ("create", Some(parent), Some(second)) => Some(Call::Create {
+            kind: kind(first)?,
+            parent: number(parent)?,
+            second: Some(number(second)?),
+        }),
+        ("drop", Some(word), None) => Some(Call::Drop {
             holder: number(first)?,
             ticket: plain_ticket(word)?,
         }),
-        ("retire", None) => Some(Call::Retire {
+        ("retire", None, None) => Some(Call::Retire {
             entity: number(first)?,
         }),
-        ("ask", Some(word)) => Some(Call::Ask {
+        ("ask", Some(word), None) => Some(Call::Ask {
             holder: number(first)?,
             ticket: ticket(word)?,
-        }),
-        _ => None,
-    }
-}
-
-// The call that four words say.
-fn read_long_call(name: &str, first: &str, second: &str, third: &str) -> Option<Call>
-    ensures { IfSome result (λ c. MeansCall name.now first.now (Some second.now) (Some third.now) c) }
-{
-    match name {
-        "copy" => Some(Call::Copy {
-            giver: number(first)?,
-            taker: number(second)?,
-            ticket: ticket(third)?,
-        }),
-        "create" => Some(Call::Create {
-            kind: kind(first)?,
-            parent: number(second)?,
-            second: Some(number(third)?),
         }),
         _ => None,
     }

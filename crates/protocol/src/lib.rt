@@ -7,7 +7,7 @@ mod names;
 mod script;
 mod words;
 
-pub use answer::{Answer, MALFORMED, Note};
+pub use answer::{Answer, Note};
 pub use command::{Call, Command, Entry, Start, parse};
 pub use script::Script;
 pub use words::TicketFor;

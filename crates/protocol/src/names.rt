@@ -1,54 +1,49 @@
 //! The card scheme's types, rights and tickets in words.
 use super::words::TicketFor;
+use scheme::{CardKind, CardRight};
 use std::fmt;
 
-/// A type, by the card scheme's word for it.
-#[derive(Clone, Copy)]
-pub struct KindName(pub u8);
+/// A name of the card scheme, or what is told of a number that has none.
+#[derive(Clone, Copy, Debug)]
+pub struct Named<T> {
+    name: Option<T>,
+    otherwise: &'static str,
+}
 
-impl fmt::Display for KindName {
+impl<T: fmt::Display> fmt::Display for Named<T> {
     fn fmt<W: fmt::Write>(&self, f: &mut fmt::Formatter<W>) -> fmt::Result {
-        f.write_str(match self.0 {
-            0 => "person",
-            1 => "folder",
-            2 => "yard",
-            3 => "card",
-            _ => "unknown",
-        })
+        match &self.name {
+            Some(name) => write!(f, "{name}"),
+            None => f.write_str(self.otherwise),
+        }
     }
 }
 
-/// A right as a deed, by the card scheme's word for it.
-#[derive(Clone, Copy)]
-pub struct Deed(pub u8);
-
-impl fmt::Display for Deed {
-    fn fmt<W: fmt::Write>(&self, f: &mut fmt::Formatter<W>) -> fmt::Result {
-        f.write_str(match self.0 {
-            0 => "read",
-            1 => "write on",
-            2 => "take from",
-            3 => "grant to",
-            4 => "own",
-            _ => "unknown",
-        })
+/// A type by its word.
+pub fn kind_name(kind: u8) -> Named<CardKind> {
+    Named {
+        name: CardKind::try_from(kind).ok(),
+        otherwise: "unknown",
     }
 }
 
-/// A right by its letter.
-#[derive(Clone, Copy)]
-pub struct Letter(pub u8);
+// A right by its letter.
+fn letter(right: u8) -> Named<CardRight> {
+    Named {
+        name: CardRight::try_from(right).ok(),
+        otherwise: "?",
+    }
+}
 
-impl fmt::Display for Letter {
-    fn fmt<W: fmt::Write>(&self, f: &mut fmt::Formatter<W>) -> fmt::Result {
-        f.write_str(match self.0 {
-            0 => "r",
-            1 => "w",
-            2 => "t",
-            3 => "g",
-            4 => "o",
-            _ => "?",
-        })
+// A right as a deed.
+fn deed(right: u8) -> &'static str {
+    match CardRight::try_from(right) {
+        Ok(CardRight::Read) => "read",
+        Ok(CardRight::Write) => "write on",
+        Ok(CardRight::Take) => "take from",
+        Ok(CardRight::Grant) => "grant to",
+        Ok(CardRight::Own) => "own",
+        Err(_) => "unknown",
     }
 }
 
@@ -56,8 +51,8 @@ impl fmt::Display for Letter {
 impl fmt::Display for TicketFor {
     fn fmt<W: fmt::Write>(&self, f: &mut fmt::Formatter<W>) -> fmt::Result {
         let target = self.target;
-        let letter = Letter(self.ticket.right);
-        let deed = Deed(self.ticket.right);
+        let letter = letter(self.ticket.right);
+        let deed = deed(self.ticket.right);
         if self.ticket.copy {
             write!(
                 f,

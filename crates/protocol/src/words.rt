@@ -4,9 +4,10 @@ ghost use Rattle.protocol.specs.Numbers.{number_of};
 ghost use Rattle.protocol.specs.Words.{byte_of, kind_of, right_of, flag, Says, SaysPlain};
 
 use model::Ticket;
+use scheme::{CardKind, CardRight};
 
 /// A ticket with the number of the entity that it is for, as a script writes it.
-#[derive(Clone, Copy)]
+#[derive(Clone, Copy, Debug, PartialEq, Eq)]
 pub struct TicketFor {
     pub target: u32,
     pub ticket: Ticket,
@@ -16,18 +17,10 @@ pub struct TicketFor {
 pub fn number(word: &str) -> Option<u32>
     ensures { result ≡ number_of word.now }
 {
-    if word.is_empty() {
+    if word.starts_with('+') {
         return None;
     }
-    let digits = word.as_bytes();
-    let mut value: u32 = 0;
-    for byte in digits {
-        if !byte.is_ascii_digit() {
-            return None;
-        }
-        value = value.checked_mul(10)?.checked_add(u32::from(*byte - b'0'))?;
-    }
-    Some(value)
+    word.parse().ok()
 }
 
 // A number as a byte. The library numbers types and rights by bytes, and no scheme has a type or a right 255: every
@@ -40,15 +33,13 @@ fn byte(word: &str) -> Option<u8>
 }
 
 /// The type that a word says: a word of the card scheme, or a number.
+// Four lines alike with `right`: one function for both would have to name what the `FromStr` of each enum gives, and be no plainer.
 pub fn kind(word: &str) -> Option<u8>
     ensures { result ≡ kind_of word.now }
 {
-    match word {
-        "person" => Some(0),
-        "folder" => Some(1),
-        "yard" => Some(2),
-        "card" => Some(3),
-        _ => byte(word),
+    match word.parse::<CardKind>() {
+        Ok(kind) => Some(kind.into()),
+        Err(_) => byte(word),
     }
 }
 
@@ -56,17 +47,13 @@ pub fn kind(word: &str) -> Option<u8>
 pub fn right(word: &str) -> Option<u8>
     ensures { result ≡ right_of word.now }
 {
-    match word {
-        "r" => Some(0),
-        "w" => Some(1),
-        "t" => Some(2),
-        "g" => Some(3),
-        "o" => Some(4),
-        _ => byte(word),
+    match word.parse::<CardRight>() {
+        Ok(right) => Some(right.into()),
+        Err(_) => byte(word),
     }
 }
 
-// What stands before the copy flag, and whether the flag is there.
+// What stands before the copy flag, and whether the flag is there: two parts of a ticket, of which neither is ever missing.
 fn flagged(text: &str) -> (&str, bool)
     ensures whole { text.now ≡ result.0.now ++ flag result.1 }
     ensures cut { result.1 ≡ false → (front : List ℕ) → text.now ≢ front ++ flag true }
@@ -95,11 +82,6 @@ pub fn ticket(word: &str) -> Option<TicketFor>
 pub fn plain_ticket(word: &str) -> Option<TicketFor>
     ensures { MatchOption result ((t : TicketFor) → SaysPlain word.now t → ⊥) (λ t. SaysPlain word.now t) }
 {
-    let (target, letter) = word.split_once('/')?;
-    let target = number(target)?;
-    let right = right(letter)?;
-    Some(TicketFor {
-        target,
-        ticket: Ticket { right, copy: false },
-    })
+    let said = ticket(word)?;
+    (!said.ticket.copy).then_some(said)
 }

@@ -1,4 +1,4 @@
--- What entering comes to, once the holdings have answered, and that every entry keeps the standing invariant.
+-- What entering comes to, once the holdings have answered, and that every entry leaves a sound set-up sound.
 use Rattle.std.proofs.Common.{◌≡◌, ℕ, ◌<◌, ltb, sym, ap, subst}
 use Rattle.std.proofs.lemmas.Bool.{cond-true, lt-ltb}
 use Rattle.model.specs.Refusals.{Answer, refused}
@@ -6,13 +6,13 @@ use Rattle.model.specs.Scheme.{Scheme, WellFormed}
 use Rattle.model.specs.State.{State, Room, added}
 use Rattle.model.specs.Calls.{after, add_answer}
 use Rattle.model.specs.SetUp.{Entry, enter, entry_answer, entry_step}
-use Rattle.model.specs.Laws.{Sound, Kept}
+use Rattle.model.specs.Laws.{Sound}
 use Rattle.model.proofs.Soundness.{sound_entry_step}
 
 module _ (S : Scheme) (R : Room) (st : State) where
-  -- an entry keeps the standing invariant
-  pub entry_kept : (own : Type 0) → own → WellFormed S → Sound S st → (e : Entry) (st' : State) → st' ≡ entry_step S R st e → Kept own S st'
-  entry_kept own o w s e st' is = record { holdings = o; sound = subst (Sound S) (sym is) (sound_entry_step S w R st s e) }
+  -- an entry leaves a sound set-up sound
+  pub entry_sound : WellFormed S → Sound S st → (e : Entry) (st' : State) → st' ≡ entry_step S R st e → Sound S st'
+  entry_sound w s e st' is = subst (Sound S) (sym is) (sound_entry_step S w R st s e)
 
   -- a declared kind: adding decides
   pub enter_answer : (k : ℕ) → k < S.kinds → add_answer R st ≡ entry_answer S R st (enter k)

@@ -1,21 +1,20 @@
 -- Calls whose checks are a front that the code has gone through, and a rest: what a refusal of the front comes to, and that
 -- storing decides the rest.
-use Rattle.std.proofs.Common.{◌≡◌, ℕ, ◌<◌, Bool, true, false, not, ◌&&◌, eqb, leb, List, [], ◌∷◌, ◌++◌, sym, ap, ◌∙◌, subst, inl, inr, arith}
-use Rattle.std.proofs.lemmas.Bool.{cond-true, ltb-true, cases_Bool, both_ways, and_left, eqb-true}
-use Rattle.model.specs.declared.refusal.Refusal.TheVariants.{NotHeld, PairsTaken}
+use Rattle.std.proofs.Common.{◌≡◌, ℕ, Bool, true, ◌&&◌, List, [], ◌∷◌, ◌++◌, sym, ap, ◌∙◌, subst, arith}
+use Rattle.std.proofs.lemmas.Bool.{cond-true}
+use Rattle.model.specs.declared.refusal.Refusal.TheVariants.{PairsTaken}
 use Rattle.model.specs.Refusals.{Answer, granted, refused, bare}
-use Rattle.model.specs.Tickets.{Tickets, bit, empty}
+use Rattle.model.specs.Tickets.{Tickets}
 use Rattle.model.specs.Scheme.{Scheme, WellFormed}
-use Rattle.model.specs.State.{State, Room, standing, holds, filled, stored, stores}
-use Rattle.model.specs.Calls.{Check, check, decide, passed, after, party_checks, gained, store_answer, Call, drop, retire, answer, step}
-use Rattle.model.specs.Laws.{Sound, Kept}
-use Rattle.model.proofs.Bits.{bit_zero}
+use Rattle.model.specs.State.{State, Room, standing, stored, stores}
+use Rattle.model.specs.Calls.{Check, check, decide, passed, after, party_checks, gained, store_answer, Call, step}
+use Rattle.model.specs.Laws.{Sound}
 use Rattle.model.proofs.Checks.{AllHold, passed_all, all_granted, decide_passed, decide_refused, bare_decide, after_bare}
 use Rattle.model.proofs.Soundness.{sound_step}
 
--- a call keeps the standing invariant
-pub call_kept : (S : Scheme) (R : Room) (st : State) (own : Type 0) → own → WellFormed S → Sound S st → (k : Call) (st' : State) → st' ≡ step S R st k → Kept own S st'
-call_kept S R st own o w s k st' is = record { holdings = o; sound = subst (Sound S) (sym is) (sound_step S w R st s k) }
+-- a call leaves a sound register sound
+pub call_sound : (S : Scheme) (R : Room) (st : State) → WellFormed S → Sound S st → (k : Call) (st' : State) → st' ≡ step S R st k → Sound S st'
+call_sound S R st w s k st' is = subst (Sound S) (sym is) (sound_step S w R st s k)
 
 -- the checks in front refuse
 module _ (front rest : List Check) (a n : ℕ) (no : refused n ≡ passed front) where
@@ -24,10 +23,6 @@ module _ (front rest : List Check) (a n : ℕ) (no : refused n ≡ passed front)
 
   pub front_unchanged : (changed st : State) → st ≡ after (decide (front ++ rest) a) changed st
   front_unchanged changed st = ap (λ (r : Answer ℕ). after r changed st) front_refused
-
--- the next check after a front that is passed fails
-pub next_refused : (front : List Check) (c : Check) (n : ℕ) → granted tt ≡ passed front → c.holds ≡ false → refused n ≡ passed (c ∷ []) → refused n ≡ passed (front ++ c ∷ [])
-next_refused front c n p f e = e ∙ sym (decide_passed front (c ∷ []) tt (sym p))
 
 -- the next check is passed too
 pub next_passed : (front : List Check) (c : Check) → granted tt ≡ passed front → granted tt ≡ passed (c ∷ []) → granted tt ≡ passed (front ++ c ∷ [])
@@ -50,9 +45,6 @@ module _ {X : Type 0} (room : X → Room) (meaning : X → State) (h asked left 
   abbrev last : List Check
   last = check PairsTaken (stores (room h) (meaning h) a y set) ∷ []
 
-  pub gain_room : room left ≡ room h
-  gain_room = stays ∙ ap room same
-
   pub gain_answer : r ≡ bare (decide (front ++ last) n)
   gain_answer =
       answers ∙ ap (λ (z : X). store_answer (room z) (meaning z) a y (gained (meaning z) a y x c)) same
@@ -71,34 +63,6 @@ module _ (S : Scheme) (st : State) (h y x : ℕ) (p : granted tt ≡ passed (par
 
   pub both_stand : (standing st h && standing st y) ≡ true
   both_stand = held_all.0
-
-  pub right_below : WellFormed S → x < 16
-  right_below w = omega (arith, ltb-true x S.rights held_all.1.1.0, w.few_rights)
-
--- a pair that is filled takes any set
-pub filled_stores : (R : Room) (st : State) (h y : ℕ) (s : Tickets) → empty (st.tickets h y) ≡ false → stores R st h y s ≡ true
-filled_stores R st h y s e = ap (λ (b : Bool). not (b && not (empty s) && leb R.pairs (filled st))) e
-
--- a right that is held is dropped: the call is granted, and storing what is left is never turned down
-module _ (S : Scheme) (R : Room) (st : State) (a y x : ℕ) (p : granted tt ≡ passed (party_checks S st a y x)) (held : holds st a y x false ≡ true) where
-  filled_pair : empty (st.tickets a y) ≡ false
-  filled_pair = elim (cases_Bool (eqb (st.tickets a y).plain 0)) [
-    | inl e ↦ absurd (both_ways (bit x (st.tickets a y).plain) (ap (bit x) (eqb-true (st.tickets a y).plain 0 e) ∙ bit_zero x) held)
-    | inr e ↦ and_left (eqb (st.tickets a y).plain 0) (eqb (st.tickets a y).copyable 0) e
-  ]
-
-  pub drop_granted : granted 0 ≡ answer S R st (drop a y x)
-  drop_granted =
-      sym (decide_passed (party_checks S st a y x) (check NotHeld (holds st a y x false) ∷ []) 0 (sym p) ∙ cond-true (holds st a y x false) (granted 0) (refused 13) held)
-
-  pub drop_stored : (s : Tickets) → store_answer R st a y s ≡ granted tt
-  drop_stored s =
-      cond-true (standing st a && standing st y) (passed (check PairsTaken (stores R st a y s) ∷ [])) (refused 1) (both_stand S st a y x p)
-      ∙ cond-true (stores R st a y s) (granted tt) (refused 11) (filled_stores R st a y s filled_pair)
-
--- an entity that stands is retired
-pub retire_granted : (S : Scheme) (R : Room) (st : State) (e : ℕ) → standing st e ≡ true → granted 0 ≡ answer S R st (retire e)
-retire_granted S R st e h = sym (cond-true (standing st e) (granted 0) (refused 1) h)
 
 -- an answer without its value tells the refusal
 pub bare_refused : (k : Answer ℕ) (m : ℕ) → refused m ≡ bare k → refused m ≡ k

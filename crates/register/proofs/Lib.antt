@@ -5,4 +5,4 @@ mod CopyChecks
 mod RuleSearch
 mod Shares
 mod Creations
-mod Played
+pub mod Books

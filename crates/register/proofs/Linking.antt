@@ -1,6 +1,8 @@
 -- Going through the links of a scheme, lowest first, until one holds and passes.
 use Rattle.std.proofs.Common.{◌≡◌, ℕ, zero, suc, ◌+◌, ◌<◌, ◌≤◌, Bool, true, false, cond, is_some, Some, None, Option, unwrap_or, sym, refl, ap, ◌∙◌, inl, inr, add-one, arith}
 use Rattle.std.proofs.lemmas.Bool.{cases_eq, false≢true, cond-true, and_from, and_left, and_right}
+use Rattle.model.specs.declared.refusal.Refusal.{Refusal}
+use Rattle.model.specs.declared.refusal.Refusal.TheVariants.{NoLink, NotPassed}
 use Rattle.model.specs.declared.rules.Sight.{Sight}
 use Rattle.model.specs.Refusals.{granted, refused}
 use Rattle.model.specs.Tickets.{has}
@@ -50,6 +52,10 @@ some_stays p m n l e = go (first p (upto m)) refl e
     go (Some i) q t = ap is_some (first_stays p i m n l q)
     go None q t = absurd (false≢true t)
 
+-- why no link will do: none that held passed, or none held
+abbrev pub reason : Bool → Refusal
+reason held = cond held NotPassed NoLink
+
 -- going through the links of a scheme, lowest first
 module _ (S : Scheme) (v : Sight) (a b y x : ℕ) (c : Bool) (i : ℕ) where
   abbrev on : ℕ → Bool
@@ -66,10 +72,10 @@ module _ (S : Scheme) (v : Sight) (a b y x : ℕ) (c : Bool) (i : ℕ) where
 
   -- it holds and does not pass
   pub link_passed_over : first (lets S v a b y x c) (upto i) ≡ None → S.link i v ≡ true → has (S.filter i a b y) x c ≡ false
-      → (first (lets S v a b y x c) (upto (i + 1)) ≡ None) × (true ≡ is_some (first on (upto (i + 1))))
-  link_passed_over e h k = (first_past (lets S v a b y x c) i (and_right (S.link i v) (has (S.filter i a b y) x c) k) ∙ e, sym (some_here on i h))
+      → (first (lets S v a b y x c) (upto (i + 1)) ≡ None) × (NotPassed ≡ reason (is_some (first on (upto (i + 1)))))
+  link_passed_over e h k = (first_past (lets S v a b y x c) i (and_right (S.link i v) (has (S.filter i a b y) x c) k) ∙ e, ap reason (sym (some_here on i h)))
 
   -- it does not hold
-  pub link_off : (linked : Bool) → first (lets S v a b y x c) (upto i) ≡ None → linked ≡ is_some (first on (upto i)) → S.link i v ≡ false
-      → (first (lets S v a b y x c) (upto (i + 1)) ≡ None) × (linked ≡ is_some (first on (upto (i + 1))))
-  link_off linked e q h = (first_past (lets S v a b y x c) i (and_left (S.link i v) (has (S.filter i a b y) x c) h) ∙ e, q ∙ sym (ap is_some (first_past on i h)))
+  pub link_off : (refusal : Refusal) → first (lets S v a b y x c) (upto i) ≡ None → refusal ≡ reason (is_some (first on (upto i))) → S.link i v ≡ false
+      → (first (lets S v a b y x c) (upto (i + 1)) ≡ None) × (refusal ≡ reason (is_some (first on (upto (i + 1)))))
+  link_off refusal e q h = (first_past (lets S v a b y x c) i (and_left (S.link i v) (has (S.filter i a b y) x c) h) ∙ e, q ∙ sym (ap (λ (o : Option ℕ). reason (is_some o)) (first_past on i h)))

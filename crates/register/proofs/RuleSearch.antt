@@ -1,8 +1,8 @@
 -- Going through the rules of a scheme, in order, until one is for the parents and the child; and what the rule that is found decides.
-use Rattle.std.proofs.Common.{◌≡◌, ℕ, zero, suc, ◌+◌, ◌<◌, ◌≤◌, Bool, true, false, ltb, List, [], ◌∷◌, length, get_or, drop, is_some, IfSome, IfOk, Some, None, Option, sym, refl, ap, ◌∙◌, subst, ap₂, add-one, arith}
+use Rattle.std.proofs.Common.{◌≡◌, ℕ, zero, suc, ◌+◌, ◌<◌, Bool, true, false, ltb, List, [], ◌∷◌, length, get_or, drop, is_some, IfSome, IfOk, Some, None, Option, sym, refl, ap, ◌∙◌, subst, ap₂, add-one, arith}
 use Rattle.std.specs.Option.{option_map, ok_or}
 use Rattle.std.specs.List.{slice_get}
-use Rattle.std.proofs.lemmas.List.{drop_more, drop_all}
+use Rattle.std.proofs.lemmas.List.{drop_more}
 use Rattle.std.proofs.lemmas.Option.{slice_get-get_or}
 use Rattle.std.proofs.lemmas.Bool.{cond-true, cond-false, lt-ltb}
 use Rattle.model.specs.declared.refusal.Refusal.TheVariants.{NoRule}
@@ -13,7 +13,7 @@ use Rattle.model.specs.State.{State, kind, standing, subject}
 use Rattle.model.specs.Calls.{check, each, passed, rule_for, rule_found}
 use Rattle.model.proofs.Entities.{same_inside, Some≢None}
 use Rattle.model.proofs.RuleNumbers.{found_rule}
-use Rattle.register.specs.declared.parents.ParentKinds.{ParentKinds}
+use Rattle.register.specs.declared.parents.Parents.{Parents}
 use Rattle.register.specs.Births.{rule_checks}
 
 module _ (S : Scheme) (k1 : ℕ) (k2 : Option ℕ) (k i : ℕ) where
@@ -46,10 +46,6 @@ module _ (S : Scheme) (k1 : ℕ) (k2 : Option ℕ) (k i : ℕ) where
       within (r ∷ rs) zero l e = Some≢None (Some r) r refl e
       within (r ∷ rs) (suc j) l e = within rs j (omega arith) e
 
-  -- there are no more rules
-  pub no_rule : length S.rules ≤ i → rule_number S.rules 0 k1 k2 k ≡ from i → None ≡ rule_found S (rule_number S.rules 0 k1 k2 k)
-  no_rule l e = sym (ap (rule_found S) (e ∙ ap (λ (rs : List Rule). rule_number rs i k1 k2 k) (drop_all i S.rules l)))
-
 -- the parents are subjects exactly where their kinds are those of subjects
 each_kind : (S : Scheme) (st : State) (a : ℕ) (b : Option ℕ) → each (subject S st) a b ≡ each S.subject (kind st a) (option_map (kind st) b)
 each_kind S st a (Some b) = refl
@@ -67,12 +63,12 @@ some_found S k1 k2 k (Some j) e = ap is_some (found_rule k1 k2 k S.rules j e).1
 some_found S k1 k2 k None e = refl
 
 -- where the parents' kinds were found, they are subjects, and the child's kind is declared, the rule decides
-module _ (S : Scheme) (st : State) (a : ℕ) (b : Option ℕ) (k : ℕ) (p : Option ParentKinds) (v : ParentKinds) (o : Option RuleStruct)
+module _ (S : Scheme) (st : State) (a : ℕ) (b : Option ℕ) (k : ℕ) (p : Option (Parents ℕ)) (v : Parents ℕ) (o : Option RuleStruct)
     (is : p ≡ Some v) (stand : is_some p ≡ each (standing st) a b) (kinds : IfSome p (λ w. (w.first ≡ kind st a) × (w.second ≡ option_map (kind st) b)))
     (subjects : each S.subject v.first v.second ≡ true) (declared : k < S.kinds)
     (found : option_map rule_of o ≡ rule_found S (rule_number S.rules 0 v.first v.second k)) where
   are : (v.first ≡ kind st a) × (v.second ≡ option_map (kind st) b)
-  are = subst (λ (q : Option ParentKinds). IfSome q (λ w. (w.first ≡ kind st a) × (w.second ≡ option_map (kind st) b))) is kinds
+  are = subst (λ (q : Option (Parents ℕ)). IfSome q (λ w. (w.first ≡ kind st a) × (w.second ≡ option_map (kind st) b))) is kinds
 
   same_rule : option_map rule_of o ≡ rule_found S (rule_for S st a b k)
   same_rule = found ∙ ap₂ (λ (i : ℕ) (j : Option ℕ). rule_found S (rule_number S.rules 0 i j k)) are.0 are.1

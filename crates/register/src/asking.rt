@@ -9,7 +9,7 @@ use model::{Refusal, Ticket};
 use scheme::Scheme;
 
 // The kinds of a ticket's holder and of its target.
-#[derive(Clone, Copy)]
+#[derive(Clone, Copy, Debug, PartialEq, Eq)]
 pub(crate) struct Parties {
     pub holder: u8,
     pub target: u8,
@@ -23,7 +23,6 @@ pub(crate) fn check_parties<S: Scheme, H: Holdings>(
     target: u32,
     right: u8,
 ) -> Result<Parties, Refusal>
-    requires { H.Holdings.ok holdings.old }
     ensures same { holdings.new ≡ holdings.old }
     ensures answer { bare (told result) ≡ passed (party_checks (S.Scheme.meaning scheme.now) (H.Holdings.meaning holdings.old) holder target right) }
     ensures kinds { IfOk result (λ k. (k.holder ≡ kind (H.Holdings.meaning holdings.old) holder) × (k.target ≡ kind (H.Holdings.meaning holdings.old) target)) }
@@ -50,7 +49,6 @@ pub fn question<S: Scheme, H: Holdings>(
     target: u32,
     ticket: Ticket,
 ) -> Result<bool, Refusal>
-    requires { H.Holdings.ok holdings.old }
     ensures same { holdings.new ≡ holdings.old }
     ensures answer { told result ≡ question_answer (S.Scheme.meaning scheme.now) (H.Holdings.meaning holdings.old) holder target ticket.right ticket.copy }
 {

@@ -6,18 +6,19 @@ ghost use Rattle.model.specs.State.{standing, gain, holding, filled, takes_besid
 ghost use Rattle.register.specs.Births.{join_parts, give_share, birth_table, brought, share_pairs, ByRule, ParentsStand};
 
 use super::gains::gain_set;
+use super::parents::Parents;
 use holdings::{Holdings, HoldingsMut};
 use model::{Part, Rule, TicketSet};
 
 // One parent's share in a birth: its part in the rule.
-#[derive(Clone, Copy)]
+#[derive(Clone, Copy, Debug, PartialEq, Eq)]
 pub(crate) struct Share {
     pub parent: u32,
     pub part: Part,
 }
 
 // What a creation makes: the child's kind, the share of each entity that is a parent, and the child's tickets for itself.
-#[derive(Clone, Copy)]
+#[derive(Clone, Copy, Debug, PartialEq, Eq)]
 pub(crate) struct Birth {
     pub first: Share,
     pub second: Option<Share>,
@@ -39,9 +40,10 @@ fn joined(first: Part, second: Part) -> Part
 
 impl Birth {
     // The birth of a child by these parents under a rule. One entity that is both parents has one share.
-    pub fn by(rule: Rule, parent: u32, second: Option<u32>) -> Birth
-        ensures { ByRule (rule_of rule) parent second result }
+    pub fn by(rule: Rule, parents: Parents<u32>) -> Birth
+        ensures { ByRule (rule_of rule) parents.first parents.second result }
     {
+        let parent = parents.first;
         let mut birth = Birth {
             first: Share {
                 parent,
@@ -52,7 +54,7 @@ impl Birth {
             own: rule.own,
         };
         if let Some(part) = rule.second {
-            if let Some(other) = second {
+            if let Some(other) = parents.second {
                 if other == parent {
                     birth.first.part = joined(rule.first, part);
                 } else {
@@ -71,16 +73,11 @@ impl Birth {
 fn pairs_beside(held: TicketSet, set: TicketSet) -> usize
     ensures { result ≡ takes_beside (tickets_of held) (tickets_of set) }
 {
-    if held.is_empty() && !set.is_empty() {
-        1
-    } else {
-        0
-    }
+    usize::from(held.is_empty() && !set.is_empty())
 }
 
 // How many pairs a share fills: there are no tickets for the child or by it yet.
 fn share_pairs<H: Holdings>(holdings: &mut H, share: Share) -> usize
-    requires { H.Holdings.ok holdings.old }
     ensures same { holdings.new ≡ holdings.old }
     ensures few { result ≤ 3 }
     ensures value { result ≡ share_pairs (H.Holdings.meaning holdings.old).tickets share }
@@ -94,7 +91,6 @@ fn share_pairs<H: Holdings>(holdings: &mut H, share: Share) -> usize
 
 // How many pairs a birth fills.
 pub(crate) fn birth_pairs<H: Holdings>(holdings: &mut H, birth: Birth) -> usize
-    requires ok { H.Holdings.ok holdings.old }
     requires parents { ParentsStand (H.Holdings.meaning holdings.old) birth }
     ensures same { holdings.new ≡ holdings.old }
     ensures value { filled (H.Holdings.meaning holdings.old) + result ≡ filled (brought (H.Holdings.meaning holdings.old) birth) }
@@ -109,11 +105,9 @@ pub(crate) fn birth_pairs<H: Holdings>(holdings: &mut H, birth: Birth) -> usize
 
 // Gives the holder a set for the target, beside what it has. There is a pair for it.
 fn give<H: HoldingsMut>(holdings: &mut H, holder: u32, target: u32, set: TicketSet)
-    requires ok { H.Holdings.ok holdings.old }
     requires holder { standing (H.Holdings.meaning holdings.old) holder ≡ true }
     requires target { standing (H.Holdings.meaning holdings.old) target ≡ true }
     requires fits { filled (holding (H.Holdings.meaning holdings.old) (gain (H.Holdings.meaning holdings.old).tickets holder target (tickets_of set))) ≤ (H.HoldingsMut.room holdings.old).pairs }
-    ensures ok { H.Holdings.ok holdings.new }
     ensures room { H.HoldingsMut.room holdings.new ≡ H.HoldingsMut.room holdings.old }
     ensures state { H.Holdings.meaning holdings.new ≡ holding (H.Holdings.meaning holdings.old) (gain (H.Holdings.meaning holdings.old).tickets holder target (tickets_of set)) }
 {
@@ -122,11 +116,9 @@ fn give<H: HoldingsMut>(holdings: &mut H, holder: u32, target: u32, set: TicketS
 
 // Gives parent and child what the parent's share has for them. There are pairs for it.
 fn give_share<H: HoldingsMut>(holdings: &mut H, share: Share, child: u32)
-    requires ok { H.Holdings.ok holdings.old }
     requires parent { standing (H.Holdings.meaning holdings.old) share.parent ≡ true }
     requires child { standing (H.Holdings.meaning holdings.old) child ≡ true }
     requires fits { filled (holding (H.Holdings.meaning holdings.old) (give_share (H.Holdings.meaning holdings.old).tickets share child)) ≤ (H.HoldingsMut.room holdings.old).pairs }
-    ensures ok { H.Holdings.ok holdings.new }
     ensures room { H.HoldingsMut.room holdings.new ≡ H.HoldingsMut.room holdings.old }
     ensures state { H.Holdings.meaning holdings.new ≡ holding (H.Holdings.meaning holdings.old) (give_share (H.Holdings.meaning holdings.old).tickets share child) }
 {
@@ -137,12 +129,10 @@ fn give_share<H: HoldingsMut>(holdings: &mut H, share: Share, child: u32)
 
 // Gives the parents and the child, which stands, what a birth has for them. There are pairs for it.
 pub(crate) fn give_birth<H: HoldingsMut>(holdings: &mut H, birth: Birth, child: u32)
-    requires ok { H.Holdings.ok holdings.old }
     requires first { standing (H.Holdings.meaning holdings.old) birth.first.parent ≡ true }
     requires second { IfSome birth.second (λ s. standing (H.Holdings.meaning holdings.old) s.parent ≡ true) }
     requires child { standing (H.Holdings.meaning holdings.old) child ≡ true }
     requires fits { filled (holding (H.Holdings.meaning holdings.old) (birth_table (H.Holdings.meaning holdings.old).tickets birth child)) ≤ (H.HoldingsMut.room holdings.old).pairs }
-    ensures ok { H.Holdings.ok holdings.new }
     ensures room { H.HoldingsMut.room holdings.new ≡ H.HoldingsMut.room holdings.old }
     ensures state { H.Holdings.meaning holdings.new ≡ holding (H.Holdings.meaning holdings.old) (birth_table (H.Holdings.meaning holdings.old).tickets birth child) }
 {

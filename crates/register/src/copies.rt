@@ -7,18 +7,19 @@ ghost use Rattle.register.specs.Passing.{copy_party_checks, lowest_answer};
 
 use super::gains::gain;
 use holdings::{Holdings, HoldingsMut};
-use model::{Refusal, Sight, Ticket};
+use model::{FilterKey, Refusal, Sight, Ticket};
 use scheme::Scheme;
 
 // The kinds of a copy's giver, taker and target.
-#[derive(Clone, Copy)]
+#[derive(Clone, Copy, Debug, PartialEq, Eq)]
 struct CopyParties {
     pub giver: u8,
     pub taker: u8,
     pub target: u8,
 }
 
-// What a copy checks first: giver, taker and target stand, giver and taker are subjects, and the scheme has the right.
+// What a copy checks first: giver, taker and target stand, giver and taker are subjects, and the scheme has the right. Apart from
+// `check_parties`: for any number of parties it would take a list of them and of those that are to be subjects, and be no plainer.
 fn check_copy_parties<S: Scheme, H: Holdings>(
     scheme: &S,
     holdings: &mut H,
@@ -27,7 +28,6 @@ fn check_copy_parties<S: Scheme, H: Holdings>(
     target: u32,
     right: u8,
 ) -> Result<CopyParties, Refusal>
-    requires { H.Holdings.ok holdings.old }
     ensures same { holdings.new ≡ holdings.old }
     ensures answer { bare (told result) ≡ passed (copy_party_checks (S.Scheme.meaning scheme.now) (H.Holdings.meaning holdings.old) giver taker target right) }
     ensures kinds { IfOk result (λ k. (k.giver ≡ kind (H.Holdings.meaning holdings.old) giver) × (k.taker ≡ kind (H.Holdings.meaning holdings.old) taker) × (k.target ≡ kind (H.Holdings.meaning holdings.old) target)) }
@@ -37,10 +37,7 @@ fn check_copy_parties<S: Scheme, H: Holdings>(
         taker: holdings.find(taker).ok_or(Refusal::NotStanding)?,
         target: holdings.find(target).ok_or(Refusal::NotStanding)?,
     };
-    if !scheme.is_subject(parties.giver) {
-        return Err(Refusal::NotSubject);
-    }
-    if !scheme.is_subject(parties.taker) {
+    if !(scheme.is_subject(parties.giver) && scheme.is_subject(parties.taker)) {
         return Err(Refusal::NotSubject);
     }
     if right >= scheme.rights() {
@@ -51,7 +48,6 @@ fn check_copy_parties<S: Scheme, H: Holdings>(
 
 // What a link from one entity to another looks at: their control rights for themselves and each other.
 fn sight<S: Scheme, H: Holdings>(scheme: &S, holdings: &mut H, x: u32, y: u32) -> Sight
-    requires { H.Holdings.ok holdings.old }
     ensures same { holdings.new ≡ holdings.old }
     ensures value { result ≡ sight (S.Scheme.meaning scheme.now) (H.Holdings.meaning holdings.old) x y }
 {
@@ -69,27 +65,33 @@ fn sight<S: Scheme, H: Holdings>(scheme: &S, holdings: &mut H, x: u32, y: u32) -
 fn lowest_link<S: Scheme>(
     scheme: &S,
     sight: Sight,
-    giver: u8,
-    taker: u8,
-    target: u8,
+    kinds: CopyParties,
     ticket: Ticket,
 ) -> Result<u8, Refusal>
-    ensures { told result ≡ lowest_answer (S.Scheme.meaning scheme.now) sight giver taker target ticket.right ticket.copy }
+    ensures { told result ≡ lowest_answer (S.Scheme.meaning scheme.now) sight kinds.giver kinds.taker kinds.target ticket.right ticket.copy }
 {
-    let mut linked = false;
+    let CopyParties {
+        giver,
+        taker,
+        target,
+    } = kinds;
+    let mut refusal = Refusal::NoLink;
+    // By number: a scheme hands out no list of its links, and of those that hold the first that passes or none at all is wanted.
     for link in 0..scheme.links() {
         if scheme.link(link, sight) {
-            if scheme.filter(link, giver, taker, target).has(ticket) {
+            let key = FilterKey {
+                link,
+                giver,
+                taker,
+                target,
+            };
+            if scheme.filter(key).has(ticket) {
                 return Ok(link);
             }
-            linked = true;
+            refusal = Refusal::NotPassed;
         }
     }
-    if linked {
-        Err(Refusal::NotPassed)
-    } else {
-        Err(Refusal::NoLink)
-    }
+    Err(refusal)
 }
 
 // Copies a ticket for the target from the giver to the taker.
@@ -101,8 +103,6 @@ pub(crate) fn copy<S: Scheme, H: HoldingsMut>(
     target: u32,
     ticket: Ticket,
 ) -> Result<u8, Refusal>
-    requires { H.Holdings.ok holdings.old }
-    ensures ok { H.Holdings.ok holdings.new }
     ensures room { H.HoldingsMut.room holdings.new ≡ H.HoldingsMut.room holdings.old }
     ensures answer { told result ≡ answer (S.Scheme.meaning scheme.now) (H.HoldingsMut.room holdings.old) (H.Holdings.meaning holdings.old) (copying giver taker target ticket.right ticket.copy) }
     ensures state { H.Holdings.meaning holdings.new ≡ step (S.Scheme.meaning scheme.now) (H.HoldingsMut.room holdings.old) (H.Holdings.meaning holdings.old) (copying giver taker target ticket.right ticket.copy) }
@@ -116,7 +116,7 @@ pub(crate) fn copy<S: Scheme, H: HoldingsMut>(
         return Err(Refusal::NotCopyable);
     }
     let seen = sight(scheme, holdings, giver, taker);
-    let link = lowest_link(scheme, seen, kinds.giver, kinds.taker, kinds.target, ticket)?;
+    let link = lowest_link(scheme, seen, kinds, ticket)?;
     gain(holdings, taker, target, ticket)?;
     Ok(link)
 }

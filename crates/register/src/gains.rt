@@ -7,7 +7,7 @@ ghost use Rattle.model.specs.Calls.{after, gained, store_answer, answer, step, d
 
 use super::asking::check_parties;
 use holdings::HoldingsMut;
-use model::{Refusal, Ticket, TicketSet};
+use model::{DemandKey, Refusal, Ticket, TicketSet};
 use scheme::Scheme;
 
 // Adds a set to what the holder has for the target.
@@ -17,8 +17,6 @@ pub(crate) fn gain_set<H: HoldingsMut>(
     target: u32,
     set: TicketSet,
 ) -> Result<(), Refusal>
-    requires { H.Holdings.ok holdings.old }
-    ensures ok { H.Holdings.ok holdings.new }
     ensures room { H.HoldingsMut.room holdings.new ≡ H.HoldingsMut.room holdings.old }
     ensures answer { told result ≡ store_answer (H.HoldingsMut.room holdings.old) (H.Holdings.meaning holdings.old) holder target (join ((H.Holdings.meaning holdings.old).tickets holder target) (tickets_of set)) }
     ensures state { H.Holdings.meaning holdings.new ≡ after (told result) (stored (H.Holdings.meaning holdings.old) holder target (join ((H.Holdings.meaning holdings.old).tickets holder target) (tickets_of set))) (H.Holdings.meaning holdings.old) }
@@ -34,9 +32,7 @@ pub(crate) fn gain<H: HoldingsMut>(
     target: u32,
     ticket: Ticket,
 ) -> Result<(), Refusal>
-    requires ok { H.Holdings.ok holdings.old }
     requires known { ticket.right < 16 }
-    ensures ok { H.Holdings.ok holdings.new }
     ensures room { H.HoldingsMut.room holdings.new ≡ H.HoldingsMut.room holdings.old }
     ensures answer { told result ≡ store_answer (H.HoldingsMut.room holdings.old) (H.Holdings.meaning holdings.old) holder target (gained (H.Holdings.meaning holdings.old) holder target ticket.right ticket.copy) }
     ensures state { H.Holdings.meaning holdings.new ≡ after (told result) (stored (H.Holdings.meaning holdings.old) holder target (gained (H.Holdings.meaning holdings.old) holder target ticket.right ticket.copy)) (H.Holdings.meaning holdings.old) }
@@ -52,14 +48,16 @@ pub(crate) fn demand<S: Scheme, H: HoldingsMut>(
     target: u32,
     ticket: Ticket,
 ) -> Result<(), Refusal>
-    requires { H.Holdings.ok holdings.old }
-    ensures ok { H.Holdings.ok holdings.new }
     ensures room { H.HoldingsMut.room holdings.new ≡ H.HoldingsMut.room holdings.old }
     ensures answer { told result ≡ bare (answer (S.Scheme.meaning scheme.now) (H.HoldingsMut.room holdings.old) (H.Holdings.meaning holdings.old) (demanding demander target ticket.right ticket.copy)) }
     ensures state { H.Holdings.meaning holdings.new ≡ step (S.Scheme.meaning scheme.now) (H.HoldingsMut.room holdings.old) (H.Holdings.meaning holdings.old) (demanding demander target ticket.right ticket.copy) }
 {
     let kinds = check_parties(scheme, holdings, demander, target, ticket.right)?;
-    if !scheme.demand(kinds.holder, kinds.target).has(ticket) {
+    let key = DemandKey {
+        demander: kinds.holder,
+        target: kinds.target,
+    };
+    if !scheme.demand(key).has(ticket) {
         return Err(Refusal::NotDemandable);
     }
     gain(holdings, demander, target, ticket)

@@ -3,31 +3,18 @@ ghost use Rattle.std.specs.Prelude.{◌≡◌};
 ghost use Rattle.model.specs.Refusals.{told, bare};
 ghost use Rattle.model.specs.Calls.{question_answer, answer, step, copy as copying, create as creating, demand as demanding, drop as dropping, retire as retiring};
 ghost use Rattle.model.specs.Grants.{Copied, Demanded, Created};
-ghost use Rattle.model.specs.Laws.{Kept};
 
-use super::births::give_birth;
-use super::creating::check_creation;
-use super::{asking, copies, gains, takes};
-use holdings::{Holdings, HoldingsMut};
-use model::{Entity, Refusal, Ticket, TicketSet};
+use super::book::{Book, Opened};
+use super::parents::Parents;
+use super::{asking, copies, creating, gains, takes};
+use holdings::HoldingsMut;
+use model::{Refusal, Ticket};
 use scheme::Scheme;
 
 /// A register that has been opened. Only a set-up becomes one.
-#[derive(Drop)]
-pub struct Register<S: Scheme, H: HoldingsMut> {
-    scheme: S,
-    holdings: H,
-}
+pub type Register<S, H> = Book<S, H, Opened>;
 
 impl<S: Scheme, H: HoldingsMut> Register<S, H> {
-    // The register that a set-up becomes.
-    pub(crate) fn opened(scheme: S, holdings: H) -> Register<S, H>
-        ensures scheme { result.scheme ≡ scheme }
-        ensures holdings { result.holdings ≡ holdings }
-    {
-        Register { scheme, holdings }
-    }
-
     /// Copies a ticket for the target from the giver to the taker, and answers the lowest link that holds and passes it.
     /// The giver needs the copyable ticket, whether the plain or the copyable one is wanted. Refused where giver, taker or
     /// target does not stand, where giver or taker is no subject, where the scheme has no such right, where the giver
@@ -40,8 +27,6 @@ impl<S: Scheme, H: HoldingsMut> Register<S, H> {
         target: u32,
         ticket: Ticket,
     ) -> Result<u8, Refusal>
-        requires { Kept (H.Holdings.ok self.old.holdings) (S.Scheme.meaning self.old.scheme) (H.Holdings.meaning self.old.holdings) }
-        ensures kept { Kept (H.Holdings.ok self.new.holdings) (S.Scheme.meaning self.new.scheme) (H.Holdings.meaning self.new.holdings) }
         ensures scheme { self.new.scheme ≡ self.old.scheme }
         ensures room { H.HoldingsMut.room self.new.holdings ≡ H.HoldingsMut.room self.old.holdings }
         ensures answer { told result ≡ answer (S.Scheme.meaning self.old.scheme) (H.HoldingsMut.room self.old.holdings) (H.Holdings.meaning self.old.holdings) (copying giver taker target ticket.right ticket.copy) }
@@ -62,8 +47,6 @@ impl<S: Scheme, H: HoldingsMut> Register<S, H> {
     /// stand, where the demander is no subject, where the scheme has no such right, where it does not let the ticket be
     /// demanded, and where there is no room for the pair.
     pub fn demand(&mut self, demander: u32, target: u32, ticket: Ticket) -> Result<(), Refusal>
-        requires { Kept (H.Holdings.ok self.old.holdings) (S.Scheme.meaning self.old.scheme) (H.Holdings.meaning self.old.holdings) }
-        ensures kept { Kept (H.Holdings.ok self.new.holdings) (S.Scheme.meaning self.new.scheme) (H.Holdings.meaning self.new.holdings) }
         ensures scheme { self.new.scheme ≡ self.old.scheme }
         ensures room { H.HoldingsMut.room self.new.holdings ≡ H.HoldingsMut.room self.old.holdings }
         ensures answer { told result ≡ bare (answer (S.Scheme.meaning self.old.scheme) (H.HoldingsMut.room self.old.holdings) (H.Holdings.meaning self.old.holdings) (demanding demander target ticket.right ticket.copy)) }
@@ -78,25 +61,22 @@ impl<S: Scheme, H: HoldingsMut> Register<S, H> {
     /// rule for these parents and this type, where all rows are taken, where all numbers have been given, and where there
     /// is no room for the pairs.
     pub fn create(&mut self, parent: u32, second: Option<u32>, kind: u8) -> Result<u32, Refusal>
-        requires { Kept (H.Holdings.ok self.old.holdings) (S.Scheme.meaning self.old.scheme) (H.Holdings.meaning self.old.holdings) }
-        ensures kept { Kept (H.Holdings.ok self.new.holdings) (S.Scheme.meaning self.new.scheme) (H.Holdings.meaning self.new.holdings) }
         ensures scheme { self.new.scheme ≡ self.old.scheme }
         ensures room { H.HoldingsMut.room self.new.holdings ≡ H.HoldingsMut.room self.old.holdings }
         ensures answer { told result ≡ answer (S.Scheme.meaning self.old.scheme) (H.HoldingsMut.room self.old.holdings) (H.Holdings.meaning self.old.holdings) (creating parent second kind) }
         ensures state { H.Holdings.meaning self.new.holdings ≡ step (S.Scheme.meaning self.old.scheme) (H.HoldingsMut.room self.old.holdings) (H.Holdings.meaning self.old.holdings) (creating parent second kind) }
         ensures model { Created (S.Scheme.meaning self.old.scheme) (H.HoldingsMut.room self.old.holdings) (H.Holdings.meaning self.old.holdings) parent second kind (told result) (H.Holdings.meaning self.new.holdings) }
     {
-        let birth = check_creation(&self.scheme, &mut self.holdings, parent, second, kind)?;
-        let child = self.holdings.add(birth.child)?;
-        give_birth(&mut self.holdings, birth, child);
-        Ok(child)
+        let parents = Parents {
+            first: parent,
+            second,
+        };
+        creating::create(&self.scheme, &mut self.holdings, parents, kind)
     }
 
     /// Takes a right for the target from the holder, plain and copyable. Refused where holder or target does not stand,
     /// where the holder is no subject, where the scheme has no such right, and where the ticket is not held.
     pub fn drop_ticket(&mut self, holder: u32, target: u32, right: u8) -> Result<(), Refusal>
-        requires { Kept (H.Holdings.ok self.old.holdings) (S.Scheme.meaning self.old.scheme) (H.Holdings.meaning self.old.holdings) }
-        ensures kept { Kept (H.Holdings.ok self.new.holdings) (S.Scheme.meaning self.new.scheme) (H.Holdings.meaning self.new.holdings) }
         ensures scheme { self.new.scheme ≡ self.old.scheme }
         ensures room { H.HoldingsMut.room self.new.holdings ≡ H.HoldingsMut.room self.old.holdings }
         ensures answer { told result ≡ bare (answer (S.Scheme.meaning self.old.scheme) (H.HoldingsMut.room self.old.holdings) (H.Holdings.meaning self.old.holdings) (dropping holder target right)) }
@@ -108,8 +88,6 @@ impl<S: Scheme, H: HoldingsMut> Register<S, H> {
     /// Retires an entity: it goes, with all that it holds and all tickets for it. Its number is never given again. Refused
     /// where it does not stand.
     pub fn retire(&mut self, entity: u32) -> Result<(), Refusal>
-        requires { Kept (H.Holdings.ok self.old.holdings) (S.Scheme.meaning self.old.scheme) (H.Holdings.meaning self.old.holdings) }
-        ensures kept { Kept (H.Holdings.ok self.new.holdings) (S.Scheme.meaning self.new.scheme) (H.Holdings.meaning self.new.holdings) }
         ensures scheme { self.new.scheme ≡ self.old.scheme }
         ensures room { H.HoldingsMut.room self.new.holdings ≡ H.HoldingsMut.room self.old.holdings }
         ensures answer { told result ≡ bare (answer (S.Scheme.meaning self.old.scheme) (H.HoldingsMut.room self.old.holdings) (H.Holdings.meaning self.old.holdings) (retiring entity)) }
@@ -121,39 +99,9 @@ impl<S: Scheme, H: HoldingsMut> Register<S, H> {
     /// Whether the holder has the ticket for the target. Refused where holder or target does not stand, where the
     /// holder is no subject, and where the scheme has no such right.
     pub fn question(&mut self, holder: u32, target: u32, ticket: Ticket) -> Result<bool, Refusal>
-        requires { Kept (H.Holdings.ok self.old.holdings) (S.Scheme.meaning self.old.scheme) (H.Holdings.meaning self.old.holdings) }
         ensures same { self.new ≡ self.old }
         ensures answer { told result ≡ question_answer (S.Scheme.meaning self.old.scheme) (H.Holdings.meaning self.old.holdings) holder target ticket.right ticket.copy }
     {
         asking::question(&self.scheme, &mut self.holdings, holder, target, ticket)
-    }
-}
-
-/// A register can be read as its holdings can: its tickets can be listed, and a spread or an outlook drawn of it.
-impl<S: Scheme, H: HoldingsMut> Holdings for Register<S, H> {
-    ghost ok = { λ s. H.Holdings.ok s.holdings };
-
-    ghost meaning = { λ s. H.Holdings.meaning s.holdings };
-
-    ghost orderly = { λ s. H.Holdings.orderly s.holdings };
-
-    fn next_number(&mut self) -> u32 {
-        self.holdings.next_number()
-    }
-
-    fn standing(&mut self) -> usize {
-        self.holdings.standing()
-    }
-
-    fn entity(&mut self, place: usize) -> Option<Entity> {
-        self.holdings.entity(place)
-    }
-
-    fn find(&mut self, number: u32) -> Option<u8> {
-        self.holdings.find(number)
-    }
-
-    fn tickets(&mut self, holder: u32, target: u32) -> TicketSet {
-        self.holdings.tickets(holder, target)
     }
 }

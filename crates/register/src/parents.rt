@@ -8,37 +8,32 @@ ghost use Rattle.model.specs.Calls.{each, passed, rule_for, rule_found};
 ghost use Rattle.register.specs.Births.{rule_checks};
 
 use holdings::Holdings;
-use model::{Part, Refusal, Rule};
+use model::{Refusal, Rule};
 use scheme::Scheme;
 
-// The kinds of a child's parents, in order.
-#[derive(Clone, Copy)]
-pub(crate) struct ParentKinds {
-    pub first: u8,
-    pub second: Option<u8>,
+// A child's parents, in order: their numbers, or their kinds.
+#[derive(Clone, Copy, Debug, PartialEq, Eq)]
+pub(crate) struct Parents<T> {
+    pub first: T,
+    pub second: Option<T>,
 }
 
 // The parents' kinds, where all of them stand.
-fn parent_kinds<H: Holdings>(
-    holdings: &mut H,
-    parent: u32,
-    second: Option<u32>,
-) -> Option<ParentKinds>
-    requires { H.Holdings.ok holdings.old }
+fn parent_kinds<H: Holdings>(holdings: &mut H, parents: Parents<u32>) -> Option<Parents<u8>>
     ensures same { holdings.new ≡ holdings.old }
-    ensures stand { is_some result ≡ each (standing (H.Holdings.meaning holdings.old)) parent second }
-    ensures kinds { IfSome result (λ k. (k.first ≡ kind (H.Holdings.meaning holdings.old) parent) × (k.second ≡ option_map (kind (H.Holdings.meaning holdings.old)) second)) }
+    ensures stand { is_some result ≡ each (standing (H.Holdings.meaning holdings.old)) parents.first parents.second }
+    ensures kinds { IfSome result (λ k. (k.first ≡ kind (H.Holdings.meaning holdings.old) parents.first) × (k.second ≡ option_map (kind (H.Holdings.meaning holdings.old)) parents.second)) }
 {
-    let first = holdings.find(parent)?;
-    let second = match second {
+    let first = holdings.find(parents.first)?;
+    let second = match parents.second {
         Some(number) => Some(holdings.find(number)?),
         None => None,
     };
-    Some(ParentKinds { first, second })
+    Some(Parents { first, second })
 }
 
 // Whether all the parents are subjects.
-fn are_subjects<S: Scheme>(scheme: &S, parents: ParentKinds) -> bool
+fn are_subjects<S: Scheme>(scheme: &S, parents: Parents<u8>) -> bool
     ensures { result ≡ each (S.Scheme.meaning scheme.now).subject parents.first parents.second }
 {
     match parents.second {
@@ -47,32 +42,20 @@ fn are_subjects<S: Scheme>(scheme: &S, parents: ParentKinds) -> bool
     }
 }
 
-// Whether a rule with this second part, or with none, is for a second parent of this kind, or for none.
-fn second_fits(part: Option<Part>, kind: Option<u8>) -> bool
-    ensures { result ≡ same_second (option_map part_of part) kind }
-{
-    match part {
-        Some(part) => match kind {
-            Some(kind) => part.kind == kind,
-            None => false,
-        },
-        None => kind.is_none(),
-    }
-}
-
 // Whether a rule is for these parents, in this order, and a child of this kind.
-fn is_for(rule: Rule, parents: ParentKinds, child: u8) -> bool
+fn is_for(rule: Rule, parents: Parents<u8>, child: u8) -> bool
     ensures { result ≡ is_for (rule_of rule) parents.first parents.second child }
 {
     rule.first.kind == parents.first
-        && second_fits(rule.second, parents.second)
+        && rule.second.map(|part| part.kind) == parents.second
         && rule.child == child
 }
 
 // The scheme's rule for these parents and a child of this kind.
-fn rule_for<S: Scheme>(scheme: &S, parents: ParentKinds, child: u8) -> Option<Rule>
+fn rule_for<S: Scheme>(scheme: &S, parents: Parents<u8>, child: u8) -> Option<Rule>
     ensures { option_map rule_of result ≡ rule_found (S.Scheme.meaning scheme.now) (rule_number (S.Scheme.meaning scheme.now).rules 0 parents.first parents.second child) }
 {
+    // By number, with a `for`: a chain of `filter_map` and `find` was tried, and its proof did not close.
     for number in 0..scheme.rules() {
         if let Some(rule) = scheme.rule(number) {
             if is_for(rule, parents, child) {
@@ -88,21 +71,19 @@ fn rule_for<S: Scheme>(scheme: &S, parents: ParentKinds, child: u8) -> Option<Ru
 pub(crate) fn rule_by_parents<S: Scheme, H: Holdings>(
     scheme: &S,
     holdings: &mut H,
-    parent: u32,
-    second: Option<u32>,
+    parents: Parents<u32>,
     child: u8,
 ) -> Result<Rule, Refusal>
-    requires { H.Holdings.ok holdings.old }
     ensures same { holdings.new ≡ holdings.old }
-    ensures answer { bare (told result) ≡ passed (rule_checks (S.Scheme.meaning scheme.now) (H.Holdings.meaning holdings.old) parent second child) }
-    ensures rule { IfOk result (λ v. rule_found (S.Scheme.meaning scheme.now) (rule_for (S.Scheme.meaning scheme.now) (H.Holdings.meaning holdings.old) parent second child) ≡ Some (rule_of v)) }
+    ensures answer { bare (told result) ≡ passed (rule_checks (S.Scheme.meaning scheme.now) (H.Holdings.meaning holdings.old) parents.first parents.second child) }
+    ensures rule { IfOk result (λ v. rule_found (S.Scheme.meaning scheme.now) (rule_for (S.Scheme.meaning scheme.now) (H.Holdings.meaning holdings.old) parents.first parents.second child) ≡ Some (rule_of v)) }
 {
-    let parents = parent_kinds(holdings, parent, second).ok_or(Refusal::NotStanding)?;
-    if !are_subjects(scheme, parents) {
+    let kinds = parent_kinds(holdings, parents).ok_or(Refusal::NotStanding)?;
+    if !are_subjects(scheme, kinds) {
         return Err(Refusal::NotSubject);
     }
     if child >= scheme.kinds() {
         return Err(Refusal::UnknownKind);
     }
-    rule_for(scheme, parents, child).ok_or(Refusal::NoRule)
+    rule_for(scheme, kinds, child).ok_or(Refusal::NoRule)
 }

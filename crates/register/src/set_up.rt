@@ -3,41 +3,38 @@ ghost use Rattle.std.specs.Prelude.{◌≡◌};
 ghost use Rattle.model.specs.Refusals.{told, bare};
 ghost use Rattle.model.specs.State.{new};
 ghost use Rattle.model.specs.SetUp.{enter as entering, place as placing, entry_answer, entry_step};
-ghost use Rattle.model.specs.Laws.{Kept};
 
 use super::asking::check_parties;
+use super::book::{Begun, Book};
 use super::gains::gain;
 use super::open::Register;
-use holdings::{Holdings, HoldingsMut};
-use model::{Entity, Refusal, Ticket, TicketSet};
+use holdings::HoldingsMut;
+use model::{Refusal, Ticket};
 use scheme::Scheme;
+use std::marker::PhantomData;
 
 /// A register that is being set up.
-#[derive(Drop)]
-pub struct SetUp<S: Scheme, H: HoldingsMut> {
-    scheme: S,
-    holdings: H,
-}
+pub type SetUp<S, H> = Book<S, H, Begun>;
 
 impl<S: Scheme, H: HoldingsMut> SetUp<S, H> {
     /// Begins a set-up. The holdings are emptied, whatever they held.
     pub fn new(scheme: S, holdings: H) -> SetUp<S, H>
-        requires { H.Holdings.ok holdings }
-        ensures kept { Kept (H.Holdings.ok result.holdings) (S.Scheme.meaning result.scheme) (H.Holdings.meaning result.holdings) }
         ensures scheme { result.scheme ≡ scheme }
         ensures room { H.HoldingsMut.room result.holdings ≡ H.HoldingsMut.room holdings }
         ensures state { H.Holdings.meaning result.holdings ≡ new }
     {
         let mut holdings = holdings;
         holdings.clear();
-        SetUp { scheme, holdings }
+        Book {
+            scheme,
+            holdings,
+            phase: PhantomData,
+        }
     }
 
     /// Enters an entity, and answers its number. Refused where the scheme has no such type, where all rows are taken,
     /// and where all numbers have been given.
     pub fn enter(&mut self, kind: u8) -> Result<u32, Refusal>
-        requires { Kept (H.Holdings.ok self.old.holdings) (S.Scheme.meaning self.old.scheme) (H.Holdings.meaning self.old.holdings) }
-        ensures kept { Kept (H.Holdings.ok self.new.holdings) (S.Scheme.meaning self.new.scheme) (H.Holdings.meaning self.new.holdings) }
         ensures scheme { self.new.scheme ≡ self.old.scheme }
         ensures room { H.HoldingsMut.room self.new.holdings ≡ H.HoldingsMut.room self.old.holdings }
         ensures answer { told result ≡ entry_answer (S.Scheme.meaning self.old.scheme) (H.HoldingsMut.room self.old.holdings) (H.Holdings.meaning self.old.holdings) (entering kind) }
@@ -52,8 +49,6 @@ impl<S: Scheme, H: HoldingsMut> SetUp<S, H> {
     /// Gives the holder a ticket for the target, beside what it holds. Refused where holder or target does not stand,
     /// where the holder is no subject, where the scheme has no such right, and where there is no room for the pair.
     pub fn place(&mut self, holder: u32, target: u32, ticket: Ticket) -> Result<(), Refusal>
-        requires { Kept (H.Holdings.ok self.old.holdings) (S.Scheme.meaning self.old.scheme) (H.Holdings.meaning self.old.holdings) }
-        ensures kept { Kept (H.Holdings.ok self.new.holdings) (S.Scheme.meaning self.new.scheme) (H.Holdings.meaning self.new.holdings) }
         ensures scheme { self.new.scheme ≡ self.old.scheme }
         ensures room { H.HoldingsMut.room self.new.holdings ≡ H.HoldingsMut.room self.old.holdings }
         ensures answer { told result ≡ bare (entry_answer (S.Scheme.meaning self.old.scheme) (H.HoldingsMut.room self.old.holdings) (H.Holdings.meaning self.old.holdings) (placing holder target ticket.right ticket.copy)) }
@@ -71,41 +66,18 @@ impl<S: Scheme, H: HoldingsMut> SetUp<S, H> {
 
     /// Ends the set-up for good. The register has everything as it was.
     pub fn open(self) -> Register<S, H>
-        requires { Kept (H.Holdings.ok self.holdings) (S.Scheme.meaning self.scheme) (H.Holdings.meaning self.holdings) }
-        ensures kept { Kept (H.Holdings.ok result.holdings) (S.Scheme.meaning result.scheme) (H.Holdings.meaning result.holdings) }
         ensures scheme { result.scheme ≡ self.scheme }
         ensures holdings { result.holdings ≡ self.holdings }
     {
-        let SetUp { scheme, holdings } = self;
-        Register::opened(scheme, holdings)
-    }
-}
-
-/// A set-up can be read as its holdings can.
-impl<S: Scheme, H: HoldingsMut> Holdings for SetUp<S, H> {
-    ghost ok = { λ s. H.Holdings.ok s.holdings };
-
-    ghost meaning = { λ s. H.Holdings.meaning s.holdings };
-
-    ghost orderly = { λ s. H.Holdings.orderly s.holdings };
-
-    fn next_number(&mut self) -> u32 {
-        self.holdings.next_number()
-    }
-
-    fn standing(&mut self) -> usize {
-        self.holdings.standing()
-    }
-
-    fn entity(&mut self, place: usize) -> Option<Entity> {
-        self.holdings.entity(place)
-    }
-
-    fn find(&mut self, number: u32) -> Option<u8> {
-        self.holdings.find(number)
-    }
-
-    fn tickets(&mut self, holder: u32, target: u32) -> TicketSet {
-        self.holdings.tickets(holder, target)
+        let Book {
+            scheme,
+            holdings,
+            phase: _,
+        } = self;
+        Book {
+            scheme,
+            holdings,
+            phase: PhantomData,
+        }
     }
 }

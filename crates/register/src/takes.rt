@@ -17,8 +17,6 @@ pub(crate) fn drop_ticket<S: Scheme, H: HoldingsMut>(
     target: u32,
     right: u8,
 ) -> Result<(), Refusal>
-    requires { H.Holdings.ok holdings.old }
-    ensures ok { H.Holdings.ok holdings.new }
     ensures room { H.HoldingsMut.room holdings.new ≡ H.HoldingsMut.room holdings.old }
     ensures answer { told result ≡ bare (answer (S.Scheme.meaning scheme.now) (H.HoldingsMut.room holdings.old) (H.Holdings.meaning holdings.old) (dropping holder target right)) }
     ensures state { H.Holdings.meaning holdings.new ≡ step (S.Scheme.meaning scheme.now) (H.HoldingsMut.room holdings.old) (H.Holdings.meaning holdings.old) (dropping holder target right) }
@@ -33,13 +31,11 @@ pub(crate) fn drop_ticket<S: Scheme, H: HoldingsMut>(
 
 // Takes out an entity, with all that it holds and all tickets for it. It is the same under every scheme.
 pub(crate) fn retire<H: HoldingsMut>(holdings: &mut H, entity: u32) -> Result<(), Refusal>
-    requires { H.Holdings.ok holdings.old }
-    ensures ok { H.Holdings.ok holdings.new }
     ensures room { H.HoldingsMut.room holdings.new ≡ H.HoldingsMut.room holdings.old }
     ensures answer { (S : Meaning) → told result ≡ bare (answer S (H.HoldingsMut.room holdings.old) (H.Holdings.meaning holdings.old) (retiring entity)) }
     ensures state { (S : Meaning) → H.Holdings.meaning holdings.new ≡ step S (H.HoldingsMut.room holdings.old) (H.Holdings.meaning holdings.old) (retiring entity) }
 {
-    let _ = holdings.find(entity).ok_or(Refusal::NotStanding)?;
+    holdings.find(entity).ok_or(Refusal::NotStanding)?;
     holdings.remove(entity);
     Ok(())
 }

@@ -1,4 +1,5 @@
 pub mod Tables
 pub mod Card
+pub mod CardNames
 pub mod Lawful
 pub mod CardLawful

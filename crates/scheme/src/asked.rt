@@ -5,7 +5,7 @@ ghost use Rattle.model.specs.Scheme.{Scheme as Meaning, WellFormed, rule_of};
 ghost use Rattle.std.specs.Option.{option_map};
 ghost use Rattle.std.specs.List.{slice_get};
 
-use model::{Rule, Sight, TicketSet};
+use model::{DemandKey, FilterKey, Rule, Sight, TicketSet};
 
 /// A protection scheme. Each question has one answer for every number, declared or not, and a repeated question is
 /// answered alike: the answer is the meaning's.
@@ -40,13 +40,13 @@ pub trait Scheme {
     fn link(&self, link: u8, sight: Sight) -> bool
         ensures { result ≡ (meaning self.now).link link sight };
 
-    /// The filter: which tickets for an entity of the third type a link passes from the first type to the second.
-    fn filter(&self, link: u8, giver: u8, taker: u8, target: u8) -> TicketSet
-        ensures { tickets_of result ≡ (meaning self.now).filter link giver taker target };
+    /// The filter: which tickets for an entity of the target's type a link passes from the giver's type to the taker's.
+    fn filter(&self, key: FilterKey) -> TicketSet
+        ensures { tickets_of result ≡ (meaning self.now).filter key.link key.giver key.taker key.target };
 
-    /// The demand function: which tickets for an entity of the second type the first type may demand.
-    fn demand(&self, demander: u8, target: u8) -> TicketSet
-        ensures { tickets_of result ≡ (meaning self.now).demand demander target };
+    /// The demand function: which tickets for an entity of the target's type the demander's type may demand.
+    fn demand(&self, key: DemandKey) -> TicketSet
+        ensures { tickets_of result ≡ (meaning self.now).demand key.demander key.target };
 
     /// How many creation rules there are, numbered from 0.
     fn rules(&self) -> usize

@@ -3,7 +3,9 @@
 
 mod asked;
 mod card;
+mod card_names;
 mod tables;
 
 pub use asked::Scheme;
 pub use card::CardScheme;
+pub use card_names::{CardKind, CardRight, Undeclared};

@@ -1,20 +1,9 @@
--- Bytes that are all zero, one at a time; and masks of rights below a number.
-use Rattle.std.proofs.Common.{◌≡◌, ℕ, ◌+◌, ◌*◌, ◌/◌, ◌^◌, ◌<◌, ◌≤◌, true, false, eqb, ltb, leb, List, length, get_or, drop, sym, refl, ap, ◌∙◌, inl, inr, zero-mul, arith, pow_mono}
+-- Masks of rights below a number.
+use Rattle.std.proofs.Common.{◌≡◌, ℕ, ◌*◌, ◌/◌, ◌^◌, ◌<◌, ◌≤◌, eqb, ltb, leb, sym, ap, ◌∙◌, inl, inr, zero-mul, arith, pow_mono}
 use native.Mathlib.Nat.{div-eq_of_lt}
 use lib.Pow.{split}
 use Rattle.std.proofs.lemmas.Nat.{pow_pos, mod_below}
-use Rattle.std.proofs.lemmas.List.{drop_more, drop_all}
 use Rattle.std.proofs.lemmas.Bool.{ne_eqb, eq-eqb, le-leb, lt-ltb, le-ltb, cases_lt}
-use Rattle.scheme_file.specs.Checks.{all_zero}
-
-pub zero_not : (bs : List ℕ) (i : ℕ) → i < length bs → (get_or bs i 0 ≡ 0 → ⊥) → all_zero (drop i bs) ≡ false
-zero_not bs i h n = rw (drop_more bs i 0 h, ne_eqb (get_or bs i 0) 0 n) refl
-
-pub zero_here : (bs : List ℕ) (i : ℕ) → i < length bs → get_or bs i 0 ≡ 0 → all_zero (drop i bs) ≡ all_zero (drop (i + 1) bs)
-zero_here bs i h n = rw (drop_more bs i 0 h, eq-eqb (get_or bs i 0) 0 n) refl
-
-pub zero_end : (bs : List ℕ) (i : ℕ) → length bs ≤ i → all_zero (drop i bs) ≡ true
-zero_end bs i h = rw (drop_all i bs h) refl
 
 -- a mask of 16 bits has only rights below 16
 pub below_all : (m r : ℕ) → 16 ≤ r → m < 65536 → leb 16 r ≡ ltb m (2 ^ r)

@@ -1,30 +1,28 @@
 -- The tests of a scheme file, in the order in which its faults count.
-use Rattle.std.specs.Prelude.{ℕ, ◌+◌, ◌*◌, ◌%◌, ◌^◌, Bool, true, false, cond, not, ◌&&◌, ◌||◌, List, [], ◌∷◌, ◌++◌, length, Some, None, Option, ◌==◌, nat_le, nat_lt}
-use Rattle.std.specs.List.{between}
+use Rattle.std.specs.Prelude.{◌≡◌, ℕ, ◌+◌, ◌*◌, ◌%◌, ◌^◌, Bool, true, false, cond, not, ◌&&◌, ◌||◌, List, [], ◌∷◌, ◌++◌, length, Some, None, Option, ◌==◌, nat_le, nat_lt}
+use Rattle.std.specs.List.{between, list_all, list_any as any}
 use Rattle.model.specs.declared.rules.Sight.{Sight}
+use Rattle.model.specs.declared.tickets.StoredSet.{StoredSet}
 use Rattle.model.specs.Scheme.{Scheme}
-use Rattle.scheme_records.specs.declared.record.StoredSet.{StoredSet}
+use Rattle.scheme_records.specs.declared.record.ParentSets.{ParentSets}
 use Rattle.scheme_records.specs.declared.record.RuleSets.{RuleSets}
 use Rattle.scheme_records.specs.declared.record.Record.{Record}
 use Rattle.scheme_records.specs.declared.record.Record.TheVariants.{Kind, Right, Alternative, Filter, Demand, Rule}
 use Rattle.scheme_records.specs.Bytes.{byte, word, checked, block, blocks, record_count, record_slice}
 use Rattle.scheme_records.specs.Decoded.{decoded}
-use Rattle.scheme_records.specs.Listed.{in_turn, place_of, records, any}
-use Rattle.scheme_records.specs.Said.{said, tag_of, tag_above, of_link, within, all_within, repeats}
+use Rattle.scheme_records.specs.Listed.{in_turn, place_of, records}
+use Rattle.scheme_records.specs.Said.{said, tag_of, tag_above, of_link, within, all_within, parent_sets, all_sets, child_sets, repeats}
 use Rattle.scheme_file.specs.Faults.{Fault, Test, test, first_fault, in_whole, in_block_of, in_record}
 
 abbrev pub all_zero : List ℕ → Bool
-all_zero [] = true
-all_zero (b ∷ bs) = b == 0 && all_zero bs
+all_zero = list_all (λ b. b == 0)
 
 -- a stored set has only rights that the scheme has so far
 abbrev pub set_fits : Scheme → StoredSet → Bool
 set_fits S s = nat_lt s.plain (2 ^ S.rights) && nat_lt s.copyable (2 ^ S.rights)
 
 abbrev pub sets_fit : Scheme → RuleSets → Bool
-sets_fit S s =
-    set_fits S s.c1
-    && (set_fits S s.c2 && (set_fits S s.s1 && (set_fits S s.s2 && (set_fits S s.h && (set_fits S s.g1 && set_fits S s.g2)))))
+sets_fit S s = list_all (set_fits S) (all_sets s)
 
 -- the same mask four times
 abbrev pub everywhere : ℕ → Sight
@@ -36,47 +34,52 @@ is_empty s = s.plain == 0 && s.copyable == 0
 -- a second parent is a subject; without one its three sets are unused bytes
 abbrev pub second_fits : Scheme → Option ℕ → RuleSets → Bool
 second_fits S (Some k) s = S.subject k
-second_fits S None s = is_empty s.c2 && (is_empty s.s2 && is_empty s.g2)
+second_fits S None s = list_all is_empty (parent_sets s.second)
 
 -- each field and mask is as its tag says, and what it names is declared: rs are the records before, and S what they say
 abbrev pub fields_fit : List Record → Scheme → Record → Bool
 fields_fit rs S (Kind n s) = nat_lt n 16 && n == S.kinds
 fields_fit rs S (Right n c) = nat_lt n 16 && n == S.rights
 fields_fit rs S (Alternative l m) = nat_lt l 8 && all_within m (everywhere S.control)
-fields_fit rs S (Filter l g t y s) = any (of_link l) rs && (S.subject g && (S.subject t && (nat_lt y S.kinds && set_fits S s)))
-fields_fit rs S (Demand d y s) = S.subject d && (nat_lt y S.kinds && set_fits S s)
-fields_fit rs S (Rule p q c s) = S.subject p && (second_fits S q s && (nat_lt c S.kinds && sets_fit S s))
+fields_fit rs S (Filter q s) =
+    any (of_link q.link) rs && (S.subject q.giver && (S.subject q.taker && (nat_lt q.target S.kinds && set_fits S s)))
+fields_fit rs S (Demand q s) = S.subject q.demander && (nat_lt q.target S.kinds && set_fits S s)
+fields_fit rs S (Rule q s) =
+    S.subject q.first && (second_fits S q.second s && (nat_lt q.child S.kinds && sets_fit S s))
 
 -- a flag is 0 or 1, and the bytes that a record does not use are zero
 abbrev pub unused_zero : Record → List ℕ → Bool
 unused_zero (Kind n s) bs = nat_lt (byte bs 2) 2 && all_zero (between 3 32 bs)
 unused_zero (Right n c) bs = nat_lt (byte bs 2) 2 && all_zero (between 3 32 bs)
 unused_zero (Alternative l m) bs = all_zero (between 2 4 bs) && all_zero (between 12 32 bs)
-unused_zero (Filter l g t y s) bs = all_zero (between 5 8 bs) && all_zero (between 12 32 bs)
-unused_zero (Demand d y s) bs = byte bs 1 == 0 && (byte bs 3 == 0 && (all_zero (between 5 8 bs) && all_zero (between 12 32 bs)))
-unused_zero (Rule p q c s) bs = true
+unused_zero (Filter q s) bs = all_zero (between 5 8 bs) && all_zero (between 12 32 bs)
+unused_zero (Demand q s) bs = byte bs 1 == 0 && (byte bs 3 == 0 && (all_zero (between 5 8 bs) && all_zero (between 12 32 bs)))
+unused_zero (Rule q s) bs = true
 
 -- the copyable mask lies within the plain one
 abbrev pub nested : StoredSet → Bool
 nested s = within s.copyable s.plain
 
+-- the same of the three sets of a parent
+abbrev pub ParentNested : ParentSets → Type 0
+ParentNested s = (nested s.for_child ≡ true) × ((nested s.for_self ≡ true) × (nested s.to_child ≡ true))
+
 abbrev pub sets_nested : Record → Bool
 sets_nested (Kind n s) = true
 sets_nested (Right n c) = true
 sets_nested (Alternative l m) = true
-sets_nested (Filter l g t y s) = nested s
-sets_nested (Demand d y s) = nested s
-sets_nested (Rule p q c s) =
-    nested s.c1 && (nested s.c2 && (nested s.s1 && (nested s.s2 && (nested s.h && (nested s.g1 && nested s.g2)))))
+sets_nested (Filter q s) = nested s
+sets_nested (Demand q s) = nested s
+sets_nested (Rule q s) = list_all nested (all_sets s)
 
 -- a rule's child is a subject, or it is given nothing
 abbrev pub object_bare : Scheme → Record → Bool
 object_bare S (Kind n s) = true
 object_bare S (Right n c) = true
 object_bare S (Alternative l m) = true
-object_bare S (Filter l g t y s) = true
-object_bare S (Demand d y s) = true
-object_bare S (Rule p q c s) = S.subject c || (is_empty s.h && (is_empty s.g1 && is_empty s.g2))
+object_bare S (Filter q s) = true
+object_bare S (Demand q s) = true
+object_bare S (Rule q s) = S.subject q.child || list_all is_empty (child_sets s)
 
 -- the five tests of a record: rs are the records before it
 unfoldable pub tag_passes : List Record → Record → Bool

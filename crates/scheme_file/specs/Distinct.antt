@@ -2,16 +2,15 @@
 use Rattle.std.specs.Prelude.{◌≡◌, ℕ, zero, suc, ◌+◌, ◌<◌, ◌≤◌, Bool, true, false, cond, ◌&&◌, ◌⊎◌, List, [], ◌∷◌, ◌++◌, length, Some, None, Option, ◌==◌, refl}
 use Rattle.std.proofs.Common.{inl, inr, sym, ap, subst, ◌∙◌, arith}
 use Rattle.std.specs.Option.{option_map, option_to_list}
-use Rattle.std.specs.List.{slice_get}
+use Rattle.std.specs.List.{slice_get, list_any as any}
 use Rattle.std.proofs.lemmas.Bool.{cases_lt, eq-eqb, and_from, or_parts, cond-false}
 use Rattle.model.specs.Scheme.{Rule as Creation, Part, same_second, is_for, rule_number}
-use Rattle.scheme_records.specs.declared.record.StoredSet.{StoredSet}
+use Rattle.scheme_records.specs.declared.record.ParentSets.{ParentSets}
+use Rattle.scheme_records.specs.declared.record.RuleKey.{RuleKey}
 use Rattle.scheme_records.specs.declared.record.RuleSets.{RuleSets}
 use Rattle.scheme_records.specs.declared.record.Record.{Record}
 use Rattle.scheme_records.specs.declared.record.Record.TheVariants.{Kind, Right, Alternative, Filter, Demand, Rule}
-use Rattle.scheme_records.specs.Listed.{any}
 use Rattle.scheme_records.specs.Said.{same_parent, rule_for, part_said, creation, rule_of, rules_of, repeats}
-use Rattle.scheme_records.proofs.Listing.{any_first}
 use Rattle.scheme_records.proofs.Saying.{nth_front}
 use Rattle.scheme_file.specs.Sound.{Sound, none, more}
 use Rattle.scheme_file.specs.Growing.{rules_more}
@@ -46,25 +45,25 @@ module _ (a : ℕ) (b : Option ℕ) (k : ℕ) where
       go false f e = f e ∙ ap (λ (n : ℕ). rule_number ys n a b k) (omega arith)
 
 -- a rule record is for what its rule is for
-same_seconds : (q b : Option ℕ) (c s g : StoredSet) → same_second (option_map (λ x. part_said x c s g) q) b ≡ same_parent q b
-same_seconds (Some x) (Some y) c s g = refl
-same_seconds (Some x) None c s g = refl
-same_seconds None (Some y) c s g = refl
-same_seconds None None c s g = refl
+same_seconds : (q b : Option ℕ) (s : ParentSets) → same_second (option_map (λ x. part_said x s) q) b ≡ same_parent q b
+same_seconds (Some x) (Some y) s = refl
+same_seconds (Some x) None s = refl
+same_seconds None (Some y) s = refl
+same_seconds None None s = refl
 
 and_and : (x y z : Bool) → ((x && y) && z) ≡ (x && (y && z))
 and_and true y z = refl
 and_and false y z = refl
 
-is_for_rule : (p : ℕ) (q : Option ℕ) (c : ℕ) (s : RuleSets) (a : ℕ) (b : Option ℕ) (k : ℕ) → is_for (creation p q c s) a b k ≡ rule_for a b k (Rule p q c s)
-is_for_rule p q c s a b k =
-    ap (λ (t : Bool). (p == a && t) && c == k) (same_seconds q b s.c2 s.s2 s.g2) ∙ and_and (p == a) (same_parent q b) (c == k)
+is_for_rule : (q : RuleKey) (s : RuleSets) (a : ℕ) (b : Option ℕ) (k : ℕ) → is_for (creation q s) a b k ≡ rule_for a b k (Rule q s)
+is_for_rule q s a b k =
+    ap (λ (t : Bool). (q.first == a && t) && q.child == k) (same_seconds q.second b s.second) ∙ and_and (q.first == a) (same_parent q.second b) (q.child == k)
 
 -- no record has the key, so no rule is found for it
 none_found : (a : ℕ) (b : Option ℕ) (k : ℕ) (rs : List Record) (j : ℕ) → any (rule_for a b k) rs ≡ false → rule_number (rules_of rs) j a b k ≡ None
 none_found a b k [] j h = refl
 none_found a b k (r ∷ rs) j h =
-    let e = or_parts (rule_for a b k r) (any (rule_for a b k) rs) (sym (any_first (rule_for a b k) r rs) ∙ h) in
+    let e = or_parts (rule_for a b k r) (any (rule_for a b k) rs) h in
     go r e.0 (λ i. none_found a b k rs i e.1)
   where
     go : (r : Record) → rule_for a b k r ≡ false → ((i : ℕ) → rule_number (rules_of rs) i a b k ≡ None)
@@ -72,31 +71,33 @@ none_found a b k (r ∷ rs) j h =
     go (Kind n s) e f = f j
     go (Right n c) e f = f j
     go (Alternative l m) e f = f j
-    go (Filter l g t y s) e f = f j
-    go (Demand d y s) e f = f j
-    go (Rule p q c s) e f =
-        cond-false (is_for (creation p q c s) a b k) (Some j) (rule_number (rules_of rs) (suc j) a b k) (is_for_rule p q c s a b k ∙ e) ∙ f (suc j)
+    go (Filter q s) e f = f j
+    go (Demand q s) e f = f j
+    go (Rule q s) e f =
+        cond-false (is_for (creation q s) a b k) (Some j) (rule_number (rules_of rs) (suc j) a b k) (is_for_rule q s a b k ∙ e) ∙ f (suc j)
 
 same_self : (q : Option ℕ) → same_parent q q ≡ true
 same_self (Some x) = eq-eqb x x refl
 same_self None = refl
 
-own_second : (q : Option ℕ) (c s g : StoredSet) → second_kind (option_map (λ x. part_said x c s g) q) ≡ q
-own_second (Some x) c s g = refl
-own_second None c s g = refl
+own_second : (q : Option ℕ) (s : ParentSets) → second_kind (option_map (λ x. part_said x s) q) ≡ q
+own_second (Some x) s = refl
+own_second None s = refl
 
 -- a new rule is found under its number
-module _ (rs : List Record) (p : ℕ) (q : Option ℕ) (c : ℕ) (s : RuleSets) (new : any (rule_for p q c) rs ≡ false) where
-  new_found : rule_number (rules_of rs ++ creation p q c s ∷ []) 0 p q c ≡ Some (length (rules_of rs))
+module _ (rs : List Record) (q : RuleKey) (s : RuleSets) (new : any (rule_for q.first q.second q.child) rs ≡ false) where
+  new_found : rule_number (rules_of rs ++ creation q s ∷ []) 0 q.first q.second q.child ≡ Some (length (rules_of rs))
   new_found =
-      let self : is_for (creation p q c s) p q c ≡ true =
-      is_for_rule p q c s p q c ∙ and_from (p == p) (same_parent q q && c == c) (eq-eqb p p refl) (and_from (same_parent q q) (c == c) (same_self q) (eq-eqb c c refl)) in
-      number_past p q c (rules_of rs) (creation p q c s ∷ []) 0 (none_found p q c rs 0 new)
+      let self : is_for (creation q s) q.first q.second q.child ≡ true =
+      is_for_rule q s q.first q.second q.child
+      ∙ and_from (q.first == q.first) (same_parent q.second q.second && q.child == q.child) (eq-eqb q.first q.first refl)
+      (and_from (same_parent q.second q.second) (q.child == q.child) (same_self q.second) (eq-eqb q.child q.child refl)) in
+      number_past q.first q.second q.child (rules_of rs) (creation q s ∷ []) 0 (none_found q.first q.second q.child rs 0 new)
       ∙ ap (λ (t : Bool). cond t (Some (0 + length (rules_of rs))) None) self ∙ ap Some (omega arith)
 
-  new_own : found (rules_of rs ++ creation p q c s ∷ []) (creation p q c s) ≡ Some (length (rules_of rs))
+  new_own : found (rules_of rs ++ creation q s ∷ []) (creation q s) ≡ Some (length (rules_of rs))
   new_own =
-      ap (λ (o : Option ℕ). rule_number (rules_of rs ++ creation p q c s ∷ []) 0 p o c) (own_second q s.c2 s.s2 s.g2) ∙ new_found
+      ap (λ (o : Option ℕ). rule_number (rules_of rs ++ creation q s ∷ []) 0 q.first o q.child) (own_second q.second s.second) ∙ new_found
 
 -- the last rule, if the record is one
 last_found : (rs : List Record) (r : Record) → repeats rs r ≡ false → (x : Creation) → rule_of r ≡ Some x
@@ -104,11 +105,11 @@ last_found : (rs : List Record) (r : Record) → repeats rs r ≡ false → (x :
 last_found rs (Kind n s) h x e = let z : ◌≡◌ {A = ℕ} 0 1 = cc in absurd (omega arith)
 last_found rs (Right n c) h x e = let z : ◌≡◌ {A = ℕ} 0 1 = cc in absurd (omega arith)
 last_found rs (Alternative l m) h x e = let z : ◌≡◌ {A = ℕ} 0 1 = cc in absurd (omega arith)
-last_found rs (Filter l g t y s) h x e = let z : ◌≡◌ {A = ℕ} 0 1 = cc in absurd (omega arith)
-last_found rs (Demand d y s) h x e = let z : ◌≡◌ {A = ℕ} 0 1 = cc in absurd (omega arith)
-last_found rs (Rule p q c s) h x e =
-    let is : creation p q c s ≡ x = cc in
-    subst (λ (y : Creation). found (rules_of rs ++ creation p q c s ∷ []) y ≡ Some (length (rules_of rs))) is (new_own rs p q c s h)
+last_found rs (Filter q s) h x e = let z : ◌≡◌ {A = ℕ} 0 1 = cc in absurd (omega arith)
+last_found rs (Demand q s) h x e = let z : ◌≡◌ {A = ℕ} 0 1 = cc in absurd (omega arith)
+last_found rs (Rule q s) h x e =
+    let is : creation q s ≡ x = cc in
+    subst (λ (y : Creation). found (rules_of rs ++ creation q s ∷ []) y ≡ Some (length (rules_of rs))) is (new_own rs q s h)
 
 nth_at_end : {X : Type 0} (xs : List X) (o : Option X) (i : ℕ) (x : X) → length xs ≤ i → slice_get (xs ++ option_to_list o) i ≡ Some x → (i ≡ length xs) × (o ≡ Some x)
 nth_at_end [] None i x l h = let z : ◌≡◌ {A = ℕ} 0 1 = cc in absurd (omega arith)

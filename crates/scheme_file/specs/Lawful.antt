@@ -10,11 +10,14 @@ use Rattle.model.specs.Tickets.{bit, none as nothing}
 use Rattle.model.specs.Scheme.{Scheme, Rule as Creation, Among, SeesMore, Monotone, WellFormed}
 use Rattle.model.proofs.Bits.{bit_zero, bit-bit_or, bit_pow, bit_within, same_bits}
 use Rattle.scheme.specs.Lawful.{proper_test, table_test, part_test, second_test, child_test, rules_test, looked_up_proper, child_by, first_by, second_by}
-use Rattle.scheme_records.specs.declared.record.StoredSet.{StoredSet}
+use Rattle.model.specs.declared.tickets.StoredSet.{StoredSet}
+use Rattle.scheme_records.specs.declared.record.ParentSets.{ParentSets}
+use Rattle.scheme_records.specs.declared.record.RuleKey.{RuleKey}
 use Rattle.scheme_records.specs.declared.record.RuleSets.{RuleSets}
 use Rattle.scheme_records.specs.declared.record.Record.{Record}
 use Rattle.scheme_records.specs.declared.record.Record.TheVariants.{Kind, Right, Alternative, Filter, Demand, Rule}
-use Rattle.scheme_records.specs.Listed.{records, all_places, any}
+use Rattle.std.specs.List.{list_any as any}
+use Rattle.scheme_records.specs.Listed.{records, all_places}
 use Rattle.scheme_records.specs.Said.{said, tagged, subject_kind, control_right, of_link, within, present, filter_for, demand_for, set_said, set_of, part_said, creation, rule_of, rules_of, mask_of, above, links_of, control_of}
 use Rattle.scheme_records.proofs.Listing.{any_more, any_weaker, count_more}
 use Rattle.scheme_file.specs.Checks.{set_fits, sets_fit, is_empty, second_fits, nested, fault_of}
@@ -27,17 +30,17 @@ kinds_next : (rs : List Record) (r : Record) → Passes rs r → (said rs).kinds
 kinds_next rs (Kind n s) p h = let e = and_parts (nat_lt n 16) (n == (said rs).kinds) p.fields in omega (arith, ltb-true n 16 e.0, eqb-true n (said rs).kinds e.1)
 kinds_next rs (Right n c) p h = omega arith
 kinds_next rs (Alternative l m) p h = omega arith
-kinds_next rs (Filter l g t y s) p h = omega arith
-kinds_next rs (Demand d y s) p h = omega arith
-kinds_next rs (Rule a b c s) p h = omega arith
+kinds_next rs (Filter q s) p h = omega arith
+kinds_next rs (Demand q s) p h = omega arith
+kinds_next rs (Rule q s) p h = omega arith
 
 rights_next : (rs : List Record) (r : Record) → Passes rs r → (said rs).rights ≤ 16 → (said rs).rights + cond (tagged 2 r) 1 0 ≤ 16
 rights_next rs (Kind n s) p h = omega arith
 rights_next rs (Right n c) p h = let e = and_parts (nat_lt n 16) (n == (said rs).rights) p.fields in omega (arith, ltb-true n 16 e.0, eqb-true n (said rs).rights e.1)
 rights_next rs (Alternative l m) p h = omega arith
-rights_next rs (Filter l g t y s) p h = omega arith
-rights_next rs (Demand d y s) p h = omega arith
-rights_next rs (Rule a b c s) p h = omega arith
+rights_next rs (Filter q s) p h = omega arith
+rights_next rs (Demand q s) p h = omega arith
+rights_next rs (Rule q s) p h = omega arith
 
 pub few_kinds : (rs : List Record) → Sound rs → (said rs).kinds ≤ 16
 few_kinds _ none = omega arith
@@ -53,9 +56,9 @@ subject_next rs (Kind n s) k p h =
     omega (arith, eqb-true n (said rs).kinds e.1, eqb-true n k (and_parts (n == k) s h).0)
 subject_next rs (Right n c) k p h = absurd (both_ways false refl h)
 subject_next rs (Alternative l m) k p h = absurd (both_ways false refl h)
-subject_next rs (Filter l g t y s) k p h = absurd (both_ways false refl h)
-subject_next rs (Demand d y s) k p h = absurd (both_ways false refl h)
-subject_next rs (Rule a b c s) k p h = absurd (both_ways false refl h)
+subject_next rs (Filter q s) k p h = absurd (both_ways false refl h)
+subject_next rs (Demand q s) k p h = absurd (both_ways false refl h)
+subject_next rs (Rule q s) k p h = absurd (both_ways false refl h)
 
 subject_known : (rs : List Record) → Sound rs → (k : ℕ) → (said rs).subject k ≡ true → k < (said rs).kinds
 subject_known _ none k h = absurd (both_ways false refl h)
@@ -70,9 +73,9 @@ control_next rs (Right n c) x p h =
     let e = and_parts (nat_lt n 16) (n == (said rs).rights) p.fields in
     omega (arith, eqb-true n (said rs).rights e.1, eqb-true n x (and_parts (n == x) c h).0)
 control_next rs (Alternative l m) x p h = absurd (both_ways false refl h)
-control_next rs (Filter l g t y s) x p h = absurd (both_ways false refl h)
-control_next rs (Demand d y s) x p h = absurd (both_ways false refl h)
-control_next rs (Rule a b c s) x p h = absurd (both_ways false refl h)
+control_next rs (Filter q s) x p h = absurd (both_ways false refl h)
+control_next rs (Demand q s) x p h = absurd (both_ways false refl h)
+control_next rs (Rule q s) x p h = absurd (both_ways false refl h)
 
 right_known : (rs : List Record) → Sound rs → (x : ℕ) → any (control_right x) rs ≡ true → x < (said rs).rights
 right_known _ none x h = absurd (both_ways false refl h)
@@ -122,9 +125,9 @@ present_more i s t f (Alternative l m) h =
     (and_map (within_more m.xx s.xx t.xx f.xx)
     (and_map (within_more m.xy s.xy t.xy f.xy)
     (and_map (within_more m.yx s.yx t.yx f.yx) (within_more m.yy s.yy t.yy f.yy)))) h
-present_more i s t f (Filter l g u y v) h = h
-present_more i s t f (Demand d y u) h = h
-present_more i s t f (Rule a b c u) h = h
+present_more i s t f (Filter q v) h = h
+present_more i s t f (Demand q u) h = h
+present_more i s t f (Rule q u) h = h
 
 links_monotone : (rs : List Record) → Monotone (said rs)
 links_monotone rs i s t f h = any_weaker (present i s) (present i t) (present_more i s t f) rs h
@@ -140,17 +143,17 @@ set_proper : (rs : List Record) (r : Record) → Passes rs r → proper_test (sa
 set_proper rs (Kind n s) p = proper_nothing (said rs)
 set_proper rs (Right n c) p = proper_nothing (said rs)
 set_proper rs (Alternative l m) p = proper_nothing (said rs)
-set_proper rs (Filter l g t y s) p =
-    let a = and_parts (any (of_link l) rs) _ p.fields in
-    let b = and_parts ((said rs).subject g) _ a.1 in
-    let c = and_parts ((said rs).subject t) _ b.1 in
-    let d = and_parts (nat_lt y (said rs).kinds) (set_fits (said rs) s) c.1 in
+set_proper rs (Filter q s) p =
+    let a = and_parts (any (of_link q.link) rs) _ p.fields in
+    let b = and_parts ((said rs).subject q.giver) _ a.1 in
+    let c = and_parts ((said rs).subject q.taker) _ b.1 in
+    let d = and_parts (nat_lt q.target (said rs).kinds) (set_fits (said rs) s) c.1 in
     proper_stored (said rs) s d.1 p.copies
-set_proper rs (Demand d y s) p =
-    let a = and_parts ((said rs).subject d) _ p.fields in
-    let b = and_parts (nat_lt y (said rs).kinds) (set_fits (said rs) s) a.1 in
+set_proper rs (Demand q s) p =
+    let a = and_parts ((said rs).subject q.demander) _ p.fields in
+    let b = and_parts (nat_lt q.target (said rs).kinds) (set_fits (said rs) s) a.1 in
     proper_stored (said rs) s b.1 p.copies
-set_proper rs (Rule a b c s) p = proper_nothing (said rs)
+set_proper rs (Rule q s) p = proper_nothing (said rs)
 
 sets_proper : (rs : List Record) → Sound rs → table_test (said rs) set_of rs ≡ true
 sets_proper _ none = refl
@@ -160,67 +163,72 @@ sets_proper _ (more rs r s p) =
     (and_from _ true (proper_grows (said rs) (said (rs ++ r ∷ [])) g (set_of r) (set_proper rs r p)) refl)
 
 -- rules are proper
-module _ (rs : List Record) (s : Sound rs) where
-  part_proper : (k c : ℕ) (C O G : StoredSet) → (said rs).subject k ≡ true
-      → proper_test (said rs) (set_said C) ≡ true → proper_test (said rs) (set_said O) ≡ true → proper_test (said rs) (set_said G) ≡ true
-      → ((said rs).subject c || is_empty G) ≡ true → part_test (said rs) (part_said k C O G) c ≡ true
-  part_proper k c C O G j x y z w =
-      and_from (nat_lt k (said rs).kinds) _ (lt-ltb k (said rs).kinds (subject_known rs s k j))
+module _ (rs : List Record) (sound : Sound rs) where
+  part_proper : (k c : ℕ) (s : ParentSets) → (said rs).subject k ≡ true
+      → proper_test (said rs) (set_said s.for_child) ≡ true → proper_test (said rs) (set_said s.for_self) ≡ true → proper_test (said rs) (set_said s.to_child) ≡ true
+      → ((said rs).subject c || is_empty s.to_child) ≡ true → part_test (said rs) (part_said k s) c ≡ true
+  part_proper k c s j x y z w =
+      and_from (nat_lt k (said rs).kinds) _ (lt-ltb k (said rs).kinds (subject_known rs sound k j))
       (and_from ((said rs).subject k) _ j (and_from _ _ x (and_from _ _ y (and_from _ _ z w))))
 
   second_proper : (q : Option ℕ) (c : ℕ) (u : RuleSets) → second_fits (said rs) q u ≡ true
-      → proper_test (said rs) (set_said u.c2) ≡ true → proper_test (said rs) (set_said u.s2) ≡ true → proper_test (said rs) (set_said u.g2) ≡ true
-      → ((said rs).subject c || is_empty u.g2) ≡ true → second_test (said rs) (option_map (λ k. part_said k u.c2 u.s2 u.g2) q) c ≡ true
-  second_proper (Some k) c u j x y z w = part_proper k c u.c2 u.s2 u.g2 j x y z w
+      → proper_test (said rs) (set_said u.second.for_child) ≡ true → proper_test (said rs) (set_said u.second.for_self) ≡ true
+      → proper_test (said rs) (set_said u.second.to_child) ≡ true
+      → ((said rs).subject c || is_empty u.second.to_child) ≡ true → second_test (said rs) (option_map (λ k. part_said k u.second) q) c ≡ true
+  second_proper (Some k) c u j x y z w = part_proper k c u.second j x y z w
   second_proper None c u j x y z w = refl
 
   -- of three sets that are empty together, each is empty
-  or_first : (a x y z : Bool) → (a || (x && (y && z))) ≡ true → (a || x) ≡ true
+  or_first : (a x y z : Bool) → (a || (x && (y && (z && true)))) ≡ true → (a || x) ≡ true
   or_first true x y z h = refl
-  or_first false x y z h = (and_parts x (y && z) h).0
+  or_first false x y z h = (and_parts x _ h).0
 
-  or_second : (a x y z : Bool) → (a || (x && (y && z))) ≡ true → (a || y) ≡ true
+  or_second : (a x y z : Bool) → (a || (x && (y && (z && true)))) ≡ true → (a || y) ≡ true
   or_second true x y z h = refl
-  or_second false x y z h = (and_parts y z (and_parts x (y && z) h).1).0
+  or_second false x y z h = (and_parts y _ (and_parts x _ h).1).0
 
-  or_third : (a x y z : Bool) → (a || (x && (y && z))) ≡ true → (a || z) ≡ true
+  or_third : (a x y z : Bool) → (a || (x && (y && (z && true)))) ≡ true → (a || z) ≡ true
   or_third true x y z h = refl
-  or_third false x y z h = (and_parts y z (and_parts x (y && z) h).1).1
+  or_third false x y z h = (and_parts z true (and_parts y _ (and_parts x _ h).1).1).0
 
-  rule_proper : (p : ℕ) (q : Option ℕ) (c : ℕ) (u : RuleSets) → Passes rs (Rule p q c u) → rules_test (said rs) (option_to_list (rule_of (Rule p q c u))) ≡ true
-  rule_proper p q c u t =
+  rule_proper : (q : RuleKey) (u : RuleSets) → Passes rs (Rule q u) → rules_test (said rs) (option_to_list (rule_of (Rule q u))) ≡ true
+  rule_proper q u t =
       let S = said rs in
-      let f0 = and_parts (S.subject p) _ t.fields in
-      let f1 = and_parts (second_fits S q u) _ f0.1 in
-      let f2 = and_parts (nat_lt c S.kinds) (sets_fit S u) f1.1 in
-      let c1 = and_parts (set_fits S u.c1) _ f2.1 in
-      let c2 = and_parts (set_fits S u.c2) _ c1.1 in
-      let s1 = and_parts (set_fits S u.s1) _ c2.1 in
-      let s2 = and_parts (set_fits S u.s2) _ s1.1 in
-      let h = and_parts (set_fits S u.h) _ s2.1 in
-      let g1 = and_parts (set_fits S u.g1) (set_fits S u.g2) h.1 in
-      let n1 = and_parts (nested u.c1) _ t.copies in
-      let n2 = and_parts (nested u.c2) _ n1.1 in
-      let n3 = and_parts (nested u.s1) _ n2.1 in
-      let n4 = and_parts (nested u.s2) _ n3.1 in
-      let n5 = and_parts (nested u.h) _ n4.1 in
-      let n6 = and_parts (nested u.g1) (nested u.g2) n5.1 in
-      let own = or_first (S.subject c) (is_empty u.h) (is_empty u.g1) (is_empty u.g2) t.gifts in
-      let to1 = or_second (S.subject c) (is_empty u.h) (is_empty u.g1) (is_empty u.g2) t.gifts in
-      let to2 = or_third (S.subject c) (is_empty u.h) (is_empty u.g1) (is_empty u.g2) t.gifts in
-      and_from (child_test S (creation p q c u)) _ (and_from (nat_lt c S.kinds) _ f2.0 (and_from _ _ (proper_stored S u.h h.0 n5.0) own))
-      (and_from (part_test S _ c) _
-      (part_proper p c u.c1 u.s1 u.g1 f0.0 (proper_stored S u.c1 c1.0 n1.0) (proper_stored S u.s1 s1.0 n3.0) (proper_stored S u.g1 g1.0 n6.0) to1)
-      (and_from (second_test S _ c) true
-      (second_proper q c u f1.0 (proper_stored S u.c2 c2.0 n2.0) (proper_stored S u.s2 s2.0 n4.0) (proper_stored S u.g2 g1.1 n6.1) to2) refl))
+      let f0 = and_parts (S.subject q.first) _ t.fields in
+      let f1 = and_parts (second_fits S q.second u) _ f0.1 in
+      let f2 = and_parts (nat_lt q.child S.kinds) (sets_fit S u) f1.1 in
+      let c1 = and_parts (set_fits S u.first.for_child) _ f2.1 in
+      let c2 = and_parts (set_fits S u.second.for_child) _ c1.1 in
+      let s1 = and_parts (set_fits S u.first.for_self) _ c2.1 in
+      let s2 = and_parts (set_fits S u.second.for_self) _ s1.1 in
+      let h = and_parts (set_fits S u.own) _ s2.1 in
+      let g1 = and_parts (set_fits S u.first.to_child) _ h.1 in
+      let g2 = and_parts (set_fits S u.second.to_child) true g1.1 in
+      let n1 = and_parts (nested u.first.for_child) _ t.copies in
+      let n2 = and_parts (nested u.second.for_child) _ n1.1 in
+      let n3 = and_parts (nested u.first.for_self) _ n2.1 in
+      let n4 = and_parts (nested u.second.for_self) _ n3.1 in
+      let n5 = and_parts (nested u.own) _ n4.1 in
+      let n6 = and_parts (nested u.first.to_child) _ n5.1 in
+      let n7 = and_parts (nested u.second.to_child) true n6.1 in
+      let own = or_first (S.subject q.child) (is_empty u.own) (is_empty u.first.to_child) (is_empty u.second.to_child) t.gifts in
+      let to1 = or_second (S.subject q.child) (is_empty u.own) (is_empty u.first.to_child) (is_empty u.second.to_child) t.gifts in
+      let to2 = or_third (S.subject q.child) (is_empty u.own) (is_empty u.first.to_child) (is_empty u.second.to_child) t.gifts in
+      and_from (child_test S (creation q u)) _ (and_from (nat_lt q.child S.kinds) _ f2.0 (and_from _ _ (proper_stored S u.own h.0 n5.0) own))
+      (and_from (part_test S _ q.child) _
+      (part_proper q.first q.child u.first f0.0 (proper_stored S u.first.for_child c1.0 n1.0) (proper_stored S u.first.for_self s1.0 n3.0)
+      (proper_stored S u.first.to_child g1.0 n6.0) to1)
+      (and_from (second_test S _ q.child) true
+      (second_proper q.second q.child u f1.0 (proper_stored S u.second.for_child c2.0 n2.0) (proper_stored S u.second.for_self s2.0 n4.0)
+      (proper_stored S u.second.to_child g2.0 n7.0) to2) refl))
 
   last_proper : (r : Record) → Passes rs r → rules_test (said rs) (option_to_list (rule_of r)) ≡ true
   last_proper (Kind n u) t = refl
   last_proper (Right n c) t = refl
   last_proper (Alternative l m) t = refl
-  last_proper (Filter l g u y v) t = refl
-  last_proper (Demand d y u) t = refl
-  last_proper (Rule p q c u) t = rule_proper p q c u t
+  last_proper (Filter q v) t = refl
+  last_proper (Demand q u) t = refl
+  last_proper (Rule q u) t = rule_proper q u t
 
 rules_proper : (rs : List Record) → Sound rs → rules_test (said rs) (rules_of rs) ≡ true
 rules_proper _ none = refl

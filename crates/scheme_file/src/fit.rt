@@ -2,23 +2,18 @@
 ghost use Rattle.std.specs.Prelude.{◌≡◌, ◌^◌, ◌<◌, Bool, length, nat_lt};
 ghost use Rattle.scheme_records.specs.Listed.{listed};
 ghost use Rattle.scheme_records.specs.Said.{said};
-ghost use Rattle.scheme_file.specs.Checks.{all_zero, set_fits, sets_fit, is_empty, second_fits, fields_fit, unused_zero, nested, sets_nested, object_bare, tag_passes, field_passes, key_passes, copy_passes, gift_passes, check_passes, number_passes, count_passes};
+ghost use Rattle.scheme_file.specs.Checks.{all_zero, set_fits, sets_fit, is_empty, second_fits, fields_fit, unused_zero, nested, tag_passes, field_passes, key_passes, copy_passes, gift_passes, length_passes, check_passes, number_passes, count_passes};
 
-use model::Sight;
+use model::{Sight, StoredSet};
 use scheme_records::{
-    Record, Records, RuleSets, StoredSet, are_within, block_check, count_of, is_within, word_at,
+    Record, Records, RuleSets, are_within, block_check, count_of, is_within, word_at,
 };
 
 // Whether all bytes are zero.
 fn are_zero(bytes: &[u8]) -> bool
     ensures { result ≡ all_zero bytes.now }
 {
-    for byte in bytes {
-        if *byte != 0 {
-            return false;
-        }
-    }
-    true
+    bytes.iter().all(|byte| *byte == 0)
 }
 
 // Whether a mask has only rights below a number.
@@ -39,13 +34,7 @@ fn set_fits(before: Records, set: StoredSet) -> bool
 fn sets_fit(before: Records, sets: RuleSets) -> bool
     ensures { result ≡ sets_fit (said (listed before.entry)) sets }
 {
-    set_fits(before, sets.c1)
-        && set_fits(before, sets.c2)
-        && set_fits(before, sets.s1)
-        && set_fits(before, sets.s2)
-        && set_fits(before, sets.h)
-        && set_fits(before, sets.g1)
-        && set_fits(before, sets.g2)
+    sets.to_array().iter().all(|set| set_fits(before, *set))
 }
 
 fn is_empty(set: StoredSet) -> bool
@@ -60,7 +49,7 @@ fn second_fits(before: Records, second: Option<u8>, sets: RuleSets) -> bool
 {
     match second {
         Some(kind) => before.is_subject(kind),
-        None => is_empty(sets.c2) && is_empty(sets.s2) && is_empty(sets.g2),
+        None => sets.second.to_array().iter().all(|set| is_empty(*set)),
     }
 }
 
@@ -84,37 +73,22 @@ fn fields_fit(before: Records, found: Record) -> bool
                     },
                 )
         }
-        Record::Filter {
-            link,
-            giver,
-            taker,
-            target,
-            set,
-        } => {
-            before.declares_link(link)
-                && before.is_subject(giver)
-                && before.is_subject(taker)
-                && usize::from(target) < before.kinds()
+        Record::Filter { key, set } => {
+            before.declares_link(key.link)
+                && before.is_subject(key.giver)
+                && before.is_subject(key.taker)
+                && usize::from(key.target) < before.kinds()
                 && set_fits(before, set)
         }
-        Record::Demand {
-            demander,
-            target,
-            set,
-        } => {
-            before.is_subject(demander)
-                && usize::from(target) < before.kinds()
+        Record::Demand { key, set } => {
+            before.is_subject(key.demander)
+                && usize::from(key.target) < before.kinds()
                 && set_fits(before, set)
         }
-        Record::Rule {
-            first,
-            second,
-            child,
-            sets,
-        } => {
-            before.is_subject(first)
-                && second_fits(before, second, sets)
-                && usize::from(child) < before.kinds()
+        Record::Rule { key, sets } => {
+            before.is_subject(key.first)
+                && second_fits(before, key.second, sets)
+                && usize::from(key.child) < before.kinds()
                 && sets_fit(before, sets)
         }
     }
@@ -126,8 +100,7 @@ fn unused_zero(found: Record, bytes: &[u8]) -> bool
     ensures { result ≡ unused_zero found bytes.now }
 {
     match found {
-        Record::Kind { .. } => bytes[2] < 2 && are_zero(&bytes[3..32]),
-        Record::Right { .. } => bytes[2] < 2 && are_zero(&bytes[3..32]),
+        Record::Kind { .. } | Record::Right { .. } => bytes[2] < 2 && are_zero(&bytes[3..32]),
         Record::Alternative { .. } => are_zero(&bytes[2..4]) && are_zero(&bytes[12..32]),
         Record::Filter { .. } => are_zero(&bytes[5..8]) && are_zero(&bytes[12..32]),
         Record::Demand { .. } => {
@@ -144,13 +117,15 @@ fn is_nested(set: StoredSet) -> bool
 }
 
 /// Whether no record before has a higher tag.
+#[tactic(auto, unfolding(crate::specs::Checks::tag_passes))]
 pub fn tag_passes(before: Records, found: Record) -> bool
     ensures { result ≡ tag_passes (listed before.entry) found }
 {
-    !before.has_tag_above(found.tag())
+    !before.has_tag_above(found.tag() as u8)
 }
 
 /// Whether fields, masks and unused bytes are as they should.
+#[tactic(auto, unfolding(crate::specs::Checks::field_passes))]
 pub fn field_passes(before: Records, bytes: &[u8], found: Record) -> bool
     requires { length bytes.now ≡ 32 }
     ensures { result ≡ field_passes (listed before.entry) bytes.now found }
@@ -159,6 +134,7 @@ pub fn field_passes(before: Records, bytes: &[u8], found: Record) -> bool
 }
 
 /// Whether no record before has the same key.
+#[tactic(auto, unfolding(crate::specs::Checks::key_passes))]
 pub fn key_passes(before: Records, found: Record) -> bool
     ensures { result ≡ key_passes (listed before.entry) found }
 {
@@ -166,47 +142,35 @@ pub fn key_passes(before: Records, found: Record) -> bool
 }
 
 /// Whether each copyable mask is within its plain one.
+#[tactic(auto, unfolding(crate::specs::Checks::copy_passes))]
 pub fn copy_passes(found: Record) -> bool
     ensures { result ≡ copy_passes found }
 {
-    sets_nested(found)
-}
-
-fn sets_nested(found: Record) -> bool
-    ensures { result ≡ sets_nested found }
-{
     match found {
-        Record::Filter { set, .. } => is_nested(set),
-        Record::Demand { set, .. } => is_nested(set),
-        Record::Rule { sets, .. } => {
-            is_nested(sets.c1)
-                && is_nested(sets.c2)
-                && is_nested(sets.s1)
-                && is_nested(sets.s2)
-                && is_nested(sets.h)
-                && is_nested(sets.g1)
-                && is_nested(sets.g2)
-        }
+        Record::Filter { set, .. } | Record::Demand { set, .. } => is_nested(set),
+        Record::Rule { sets, .. } => sets.to_array().iter().all(|set| is_nested(*set)),
         _ => true,
     }
 }
 
 /// Whether a child that is an object is given nothing.
+#[tactic(auto, unfolding(crate::specs::Checks::gift_passes))]
 pub fn gift_passes(before: Records, found: Record) -> bool
     ensures { result ≡ gift_passes (listed before.entry) found }
 {
-    object_bare(before, found)
-}
-
-fn object_bare(before: Records, found: Record) -> bool
-    ensures { result ≡ object_bare (said (listed before.entry)) found }
-{
     match found {
-        Record::Rule { child, sets, .. } => {
-            before.is_subject(child) || (is_empty(sets.h) && is_empty(sets.g1) && is_empty(sets.g2))
+        Record::Rule { key, sets } => {
+            before.is_subject(key.child) || sets.of_child().iter().all(|set| is_empty(*set))
         }
         _ => true,
     }
+}
+
+/// Whether a file is of 1 to 128 whole blocks.
+pub fn length_passes(file: &[u8]) -> bool
+    ensures { result ≡ length_passes file.now }
+{
+    file.len() % 512 == 0 && (1..=128).contains(&(file.len() / 512))
 }
 
 /// Whether a block's check matches its bytes.
@@ -214,6 +178,7 @@ pub fn check_passes(block: &[u8]) -> bool
     requires { length block.now ≡ 512 }
     ensures { result ≡ check_passes block.now }
 {
+    // Joined by hand: `u32::from_be_bytes` was tried, and its proof did not close.
     let stored = u32::from(word_at(block, 508)) * 65536 + u32::from(word_at(block, 510));
     block_check(word_at(block, 0), &block[0..508]) == stored
 }
@@ -223,7 +188,7 @@ pub fn number_passes(block: &[u8], number: u8, n: u8) -> bool
     requires { (length block.now ≡ 512) × (number < n) }
     ensures { result ≡ number_passes block.now number n }
 {
-    let mark = if number + 1 == n { 1 } else { 0 };
+    let mark = u8::from(number + 1 == n);
     word_at(block, 0) == u16::from(number) && block[3] == mark
 }
 

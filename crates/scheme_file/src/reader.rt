@@ -1,16 +1,15 @@
 //! The scheme that a file says.
 ghost use Rattle.std.specs.Prelude.{◌≡◌, true, false, is_some};
 ghost use Rattle.model.specs.Scheme.{part_of};
-ghost use Rattle.model.specs.Tickets.{tickets_of};
 ghost use Rattle.scheme_records.specs.Listed.{listed, records as records_of, all_places};
-ghost use Rattle.scheme_records.specs.Said.{set_said, part_said};
-ghost use Rattle.scheme_file.specs.Checks.{nested, fault_of};
+ghost use Rattle.scheme_records.specs.Said.{part_said};
+ghost use Rattle.scheme_file.specs.Checks.{ParentNested, fault_of};
 ghost use Rattle.scheme_file.specs.Lawful.{file_scheme, file_well_formed};
 
 use super::file::SchemeFile;
-use model::{Part, Rule, Sight, TicketSet};
+use model::{DemandKey, FilterKey, Part, Rule, Sight, TicketSet};
 use scheme::Scheme;
-use scheme_records::{Record, Records, StoredSet};
+use scheme_records::{ParentSets, Records, RuleSets};
 
 impl<'a> SchemeFile<'a> {
     /// The scheme of a file that was checked.
@@ -29,24 +28,16 @@ impl<'a> SchemeFile<'a> {
     }
 }
 
-// A stored set whose copyable mask is within the plain one.
-fn tickets(set: StoredSet) -> TicketSet
-    requires { nested set ≡ true }
-    ensures { tickets_of result ≡ set_said set }
-{
-    TicketSet::new(set.plain, set.copyable)
-}
-
 // A parent's part in a rule.
-fn part(kind: u8, for_child: StoredSet, for_self: StoredSet, to_child: StoredSet) -> Part
-    requires { (nested for_child ≡ true) × ((nested for_self ≡ true) × (nested to_child ≡ true)) }
-    ensures { part_of result ≡ part_said kind for_child for_self to_child }
+fn part(kind: u8, sets: ParentSets) -> Part
+    requires { ParentNested sets }
+    ensures { part_of result ≡ part_said kind sets }
 {
     Part {
         kind,
-        for_child: tickets(for_child),
-        for_self: tickets(for_self),
-        to_child: tickets(to_child),
+        for_child: sets.for_child.into(),
+        for_self: sets.for_self.into(),
+        to_child: sets.to_child.into(),
     }
 }
 
@@ -79,12 +70,12 @@ impl<'a> Scheme for SchemeFile<'a> {
         self.records().link(link, sight)
     }
 
-    fn filter(&self, link: u8, giver: u8, taker: u8, target: u8) -> TicketSet {
-        tickets(self.records().filter(link, giver, taker, target))
+    fn filter(&self, key: FilterKey) -> TicketSet {
+        self.records().filter(key).into()
     }
 
-    fn demand(&self, demander: u8, target: u8) -> TicketSet {
-        tickets(self.records().demand(demander, target))
+    fn demand(&self, key: DemandKey) -> TicketSet {
+        self.records().demand(key).into()
     }
 
     fn rules(&self) -> usize {
@@ -92,23 +83,13 @@ impl<'a> Scheme for SchemeFile<'a> {
     }
 
     fn rule(&self, number: usize) -> Option<Rule> {
-        let found = self.records().rule(number)?;
-        match found {
-            Record::Rule {
-                first,
-                second,
-                child,
-                sets,
-            } => Some(Rule {
-                first: part(first, sets.c1, sets.s1, sets.g1),
-                second: match second {
-                    Some(kind) => Some(part(kind, sets.c2, sets.s2, sets.g2)),
-                    None => None,
-                },
-                child,
-                own: tickets(sets.h),
-            }),
-            _ => None,
-        }
+        let (key, sets) = self.records().rule(number)?;
+        let RuleSets { first, second, own } = sets;
+        Some(Rule {
+            first: part(key.first, first),
+            second: key.second.map(|kind| part(kind, second)),
+            child: key.child,
+            own: own.into(),
+        })
     }
 }

@@ -1,11 +1,15 @@
--- The first record that passes a test, and counts of records, one place more at a time.
-use Rattle.std.proofs.Common.{◌≡◌, ℕ, zero, suc, ◌+◌, ◌/◌, ◌%◌, ◌<◌, ◌≤◌, Bool, true, false, cond, ◌||◌, ◌⊎◌, List, [], ◌∷◌, ◌++◌, is_some, Some, None, Option, sym, refl, ap, ◌∙◌, inl, inr, add-zero, add_assoc, zero-add, add-one, arith}
-use Rattle.std.specs.Option.{option_to_list}
-use Rattle.std.proofs.lemmas.Bool.{cond_below, cond_above, cases_lt, or_cases, or_left, or_right}
+-- The records in more and more places, and tests of them.
+use Rattle.std.proofs.Common.{◌≡◌, ℕ, zero, suc, ◌+◌, ◌-◌, ◌/◌, ◌%◌, ◌<◌, ◌≤◌, Bool, true, false, cond, ◌||◌, List, [], ◌∷◌, ◌++◌, is_some, Some, None, Option, sym, refl, ap, ◌∙◌, inl, inr, add-zero, zero-add, add-one, append_assoc, append-nil, arith}
+use Rattle.std.specs.Option.{option_to_list, MatchOption}
+use Rattle.std.specs.List.{list_any as any, count_by as count}
+use Rattle.std.proofs.lemmas.List.Folds.{list_any-append}
+use Rattle.std.proofs.lemmas.List.Sums.{sum_by-append}
+use Rattle.std.proofs.lemmas.Bool.{cond_below, cond_above, or_cases, or_left, or_right, both_ways}
 use Rattle.scheme_records.specs.declared.record.Record.{Record}
 use Rattle.scheme_records.specs.Bytes.{block, record_count, record_slice}
 use Rattle.scheme_records.specs.Decoded.{decoded}
-use Rattle.scheme_records.specs.Listed.{in_turn, records, record_at, first_of, any, count}
+use Rattle.scheme_records.specs.Listed.{in_turn, records, record_at}
+use Rattle.scheme_records.specs.Walked.{records_from}
 
 pub in_turn_more : {X : Type 0} (f : ℕ → List X) (n : ℕ) → in_turn f (n + 1) ≡ in_turn f n ++ f n
 in_turn_more f n = ap (λ (k : ℕ). in_turn f k) (add-one n)
@@ -28,97 +32,68 @@ module _ (file bytes : List ℕ) (p n : ℕ) (b : bytes ≡ block file (p / 15))
       let k : n ≡ record_count (block file (p / 15)) = e ∙ ap record_count b in
       cond_above (p % 15) (record_count (block file (p / 15))) _ None None (omega (arith, k)) refl
 
-pub first_past : (w : Record → Bool) (xs ys : List Record) → first_of w xs ≡ None → first_of w (xs ++ ys) ≡ first_of w ys
-first_past w [] ys h = refl
-first_past w (x ∷ xs) ys h = go (w x) (first_past w xs ys) h
-  where
-    go : (t : Bool) → (first_of w xs ≡ None → first_of w (xs ++ ys) ≡ first_of w ys)
-        → cond t (Some x) (first_of w xs) ≡ None → cond t (Some x) (first_of w (xs ++ ys)) ≡ first_of w ys
-    go true f e = let z : ◌≡◌ {A = ℕ} 0 1 = cc in absurd (omega arith)
-    go false f e = f e
-
-pub first_stays : (w : Record → Bool) (xs ys : List Record) (r : Record) → first_of w xs ≡ Some r → first_of w (xs ++ ys) ≡ Some r
-first_stays w [] ys r h = let z : ◌≡◌ {A = ℕ} 0 1 = cc in absurd (omega arith)
-first_stays w (x ∷ xs) ys r h = go (w x) (first_stays w xs ys r) h
-  where
-    go : (t : Bool) → (first_of w xs ≡ Some r → first_of w (xs ++ ys) ≡ Some r)
-        → cond t (Some x) (first_of w xs) ≡ Some r → cond t (Some x) (first_of w (xs ++ ys)) ≡ Some r
-    go true f e = e
-    go false f e = f e
-
-pub count_joined : (w : Record → Bool) (xs ys : List Record) → count w (xs ++ ys) ≡ count w xs + count w ys
-count_joined w [] ys = sym (zero-add (count w ys))
-count_joined w (x ∷ xs) ys = ap (λ (n : ℕ). cond (w x) 1 0 + n) (count_joined w xs ys) ∙ sym (add_assoc (cond (w x) 1 0) (count w xs) (count w ys))
-
 -- there is no record in no place
 pub records_none : (file : List ℕ) → records file 0 ≡ []
 unfolding records
 records_none file = refl
 
--- one record more
-module _ (w : Record → Bool) (file : List ℕ) (p : ℕ) where
-  first_next : (o : Option Record) → o ≡ record_at file p → first_of w (records file p) ≡ None → first_of w (records file (p + 1)) ≡ first_of w (option_to_list o)
-  first_next o e h = rw (records_more file p) (first_past w (records file p) (option_to_list (record_at file p)) h ∙ ap (λ (x : Option Record). first_of w (option_to_list x)) (sym e))
+-- a walk: one place more, and the end
+pub left_more : (file : List ℕ) (p q : ℕ) → p < q → records_from file p (q - p) ≡ option_to_list (record_at file p) ++ records_from file (p + 1) (q - (p + 1))
+unfolding records_from
+left_more file p q l = let n : q - p ≡ suc (q - (p + 1)) = omega arith in rw n refl
 
-  pub passed_none : None ≡ record_at file p → first_of w (records file p) ≡ None → first_of w (records file (p + 1)) ≡ None
-  passed_none e h = first_next None e h
+pub left_none : (file : List ℕ) (p q : ℕ) → q ≤ p → records_from file p (q - p) ≡ []
+unfolding records_from
+left_none file p q l = let n : q - p ≡ 0 = omega arith in rw n refl
 
-  pub passed_other : (r : Record) → Some r ≡ record_at file p → false ≡ w r → first_of w (records file p) ≡ None → first_of w (records file (p + 1)) ≡ None
-  passed_other r e f h = first_next (Some r) e h ∙ rw (← f) refl
+-- a walk from the first place on comes to all records
+from_last : (file : List ℕ) (p n : ℕ) → records_from file p (suc n) ≡ records_from file p n ++ option_to_list (record_at file (p + n))
+unfolding records_from
+from_last file p zero = append-nil (option_to_list (record_at file p)) ∙ ap (λ (q : ℕ). option_to_list (record_at file q)) (sym (add-zero p))
+from_last file p (suc n) =
+    ap (λ (rs : List Record). option_to_list (record_at file p) ++ rs) (from_last file (p + 1) n)
+    ∙ sym (append_assoc (option_to_list (record_at file p)) (records_from file (p + 1) n) (option_to_list (record_at file (p + 1 + n))))
+    ∙ ap (λ (q : ℕ). (option_to_list (record_at file p) ++ records_from file (p + 1) n) ++ option_to_list (record_at file q)) (omega arith)
 
-  pub found_here : (r : Record) → Some r ≡ record_at file p → true ≡ w r → first_of w (records file p) ≡ None → first_of w (records file (p + 1)) ≡ Some r
-  found_here r e f h = first_next (Some r) e h ∙ rw (← f) refl
+walked_none : (file : List ℕ) → records_from file 0 0 ≡ records file 0
+unfolding records_from records
+walked_none file = refl
 
-  count_next : (o : Option Record) → o ≡ record_at file p → count w (records file (p + 1)) ≡ count w (records file p) + count w (option_to_list o)
-  count_next o e = rw (records_more file p) (count_joined w (records file p) (option_to_list (record_at file p)) ∙ ap (λ (x : Option Record). count w (records file p) + count w (option_to_list x)) (sym e))
-
-  pub count_none : None ≡ record_at file p → count w (records file (p + 1)) ≡ count w (records file p)
-  count_none e = count_next None e ∙ omega arith
-
-  pub count_other : (r : Record) → Some r ≡ record_at file p → false ≡ w r → count w (records file (p + 1)) ≡ count w (records file p)
-  count_other r e f = count_next (Some r) e ∙ rw (← f) (omega arith)
-
-  pub count_one : (r : Record) → Some r ≡ record_at file p → true ≡ w r → count w (records file (p + 1)) ≡ count w (records file p) + 1
-  count_one r e f = count_next (Some r) e ∙ rw (← f) (omega arith)
-
--- what was found stays found in more places
-pub found_lasts : (w : Record → Bool) (file : List ℕ) (p n : ℕ) (r : Record) → p ≤ n → first_of w (records file p) ≡ Some r → first_of w (records file n) ≡ Some r
-found_lasts w file p zero r h e = let z : p ≡ 0 = omega arith in rw z at e
-found_lasts w file p (suc n) r h e = elim (cases_lt p (suc n)) [
-  | inl l ↦ rw (← add-one, records_more file n) (first_stays w (records file n) (option_to_list (record_at file n)) r (found_lasts w file p n r (omega arith) e))
-  | inr g ↦ let z : p ≡ suc n = omega arith in rw z at e
-]
-
--- some record of two lists passes a test: one of the first, or one of the second
-pub any_first : (w : Record → Bool) (r : Record) (rs : List Record) → any w (r ∷ rs) ≡ (w r || any w rs)
-any_first w r rs = elim (w r) as (λ t. is_some (cond t (Some r) (first_of w rs)) ≡ (t || any w rs)) [ true ↦ refl | false ↦ refl ]
-
-or_or : (a b c : Bool) → (a || (b || c)) ≡ ((a || b) || c)
-or_or true b c = refl
-or_or false b c = refl
-
-pub any_joined : (w : Record → Bool) (xs ys : List Record) → any w (xs ++ ys) ≡ (any w xs || any w ys)
-any_joined w [] ys = refl
-any_joined w (x ∷ xs) ys =
-    any_first w x (xs ++ ys) ∙ ap (λ (b : Bool). w x || b) (any_joined w xs ys) ∙ or_or (w x) (any w xs) (any w ys)
-    ∙ ap (λ (b : Bool). b || any w ys) (sym (any_first w x xs))
-
-or_false : (b : Bool) → (b || false) ≡ b
-or_false true = refl
-or_false false = refl
+pub records_walked : (file : List ℕ) (n : ℕ) → records_from file 0 n ≡ records file n
+records_walked file zero = walked_none file
+records_walked file (suc n) =
+    from_last file 0 n ∙ ap (λ (q : ℕ). records_from file 0 n ++ option_to_list (record_at file q)) (zero-add n)
+    ∙ ap (λ (rs : List Record). rs ++ option_to_list (record_at file n)) (records_walked file n)
+    ∙ sym (records_more file n) ∙ ap (λ (q : ℕ). records file q) (add-one n)
 
 -- one record more
 pub any_more : (w : Record → Bool) (rs : List Record) (r : Record) → any w (rs ++ r ∷ []) ≡ (any w rs || w r)
-any_more w rs r = any_joined w rs (r ∷ []) ∙ ap (λ (b : Bool). any w rs || b) (any_first w r [] ∙ or_false (w r))
+any_more w rs r = list_any-append w rs (r ∷ []) ∙ ap (λ (b : Bool). any w rs || b) (or_false (w r))
+  where
+    or_false : (b : Bool) → (b || false) ≡ b
+    or_false true = refl
+    or_false false = refl
 
 pub count_more : (w : Record → Bool) (rs : List Record) (r : Record) → count w (rs ++ r ∷ []) ≡ count w rs + cond (w r) 1 0
-count_more w rs r = count_joined w rs (r ∷ []) ∙ ap (λ (n : ℕ). count w rs + n) (add-zero (cond (w r) 1 0))
+count_more w rs r = omega (arith, sum_by-append (λ x. cond (w x) 1 0) rs (r ∷ []))
 
 -- what passes a test passes a weaker one
 pub any_weaker : (w v : Record → Bool) → ((r : Record) → w r ≡ true → v r ≡ true) → (rs : List Record) → any w rs ≡ true → any v rs ≡ true
 any_weaker w v f [] e = e
-any_weaker w v f (r ∷ rs) e = any_first v r rs ∙ go (or_cases (w r) (any w rs) (sym (any_first w r rs) ∙ e)) (any_weaker w v f rs)
-  where
-    go : (w r ≡ true) ⊎ (any w rs ≡ true) → (any w rs ≡ true → any v rs ≡ true) → (v r || any v rs) ≡ true
-    go (inl h) k = or_left (v r) (any v rs) (f r h)
-    go (inr h) k = or_right (v r) (any v rs) (k h)
+any_weaker w v f (r ∷ rs) e = elim (or_cases (w r) (any w rs) e) [ inl h ↦ or_left (v r) (any v rs) (f r h) | inr h ↦ or_right (v r) (any v rs) (any_weaker w v f rs h) ]
+
+-- a step of a walk: the record in its place, if there is one, and what is left after it
+pub walk_step : (file : List ℕ) (p e p' e' at : ℕ) (o : Option Record) → 0 < e - p → at ≡ p → p' ≡ p + 1 → e' ≡ e → o ≡ record_at file at
+    → records_from file p (e - p) ≡ option_to_list o ++ records_from file p' (e' - p')
+walk_step file p e p' e' at o l a n m r =
+    let here : o ≡ record_at file p = r ∙ ap (record_at file) a in
+    rw (here, m, n) (left_more file p e (omega arith))
+
+pub walk_yields : (o : Option Record) (old new : List Record) → is_some o ≡ true → old ≡ option_to_list o ++ new
+    → MatchOption o ((old ≡ []) × (new ≡ [])) (λ x. old ≡ x ∷ new)
+walk_yields (Some x) old new s e = e
+walk_yields None old new s e = absurd (both_ways false refl s)
+
+pub walk_passes : (o : Option Record) (old new : List Record) → is_some o ≡ false → old ≡ option_to_list o ++ new → new ≡ old
+walk_passes (Some x) old new s e = absurd (both_ways true s refl)
+walk_passes None old new s e = sym e

@@ -1,5 +1,5 @@
 -- The records of a file in order. A place of a file is a record's number among 15 to a block.
-use Rattle.std.specs.Prelude.{ℕ, zero, suc, ◌+◌, ◌*◌, ◌/◌, ◌%◌, Bool, cond, List, [], ◌∷◌, ◌++◌, is_some, Some, None, Option, nat_lt}
+use Rattle.std.specs.Prelude.{ℕ, zero, suc, ◌+◌, ◌*◌, ◌/◌, ◌%◌, cond, List, [], ◌++◌, None, Option, nat_lt}
 use Rattle.std.specs.Option.{option_to_list}
 use Rattle.scheme_records.specs.declared.record.Record.{Record}
 use Rattle.scheme_records.specs.declared.records.Records.{Records}
@@ -29,15 +29,3 @@ listed rs = records rs.file.now rs.places
 
 abbrev pub all_places : List ℕ → ℕ
 all_places file = 15 * blocks file
-
--- the first record that passes a test, whether there is one, and how many there are
-abbrev pub first_of : (Record → Bool) → List Record → Option Record
-first_of p [] = None
-first_of p (r ∷ rs) = cond (p r) (Some r) (first_of p rs)
-
-abbrev pub any : (Record → Bool) → List Record → Bool
-any p rs = is_some (first_of p rs)
-
-abbrev pub count : (Record → Bool) → List Record → ℕ
-count p [] = 0
-count p (r ∷ rs) = cond (p r) 1 0 + count p rs

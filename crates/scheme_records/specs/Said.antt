@@ -1,24 +1,36 @@
 -- The scheme that records say.
-use Rattle.std.specs.Prelude.{ℕ, zero, suc, ◌^◌, Bool, true, false, cond, ◌&&◌, List, Some, None, Option, ◌==◌, bit_or, nat_lt}
-use Rattle.std.specs.List.{flat_map}
-use Rattle.std.specs.Option.{option_map, option_to_list}
+use Rattle.std.specs.Prelude.{ℕ, zero, suc, ◌^◌, Bool, false, cond, ◌&&◌, List, [], ◌∷◌, Some, None, Option, ◌==◌, bit_or, nat_lt}
+use Rattle.std.specs.List.{flat_map, list_any as any, count_by as count}
+use Rattle.std.specs.Option.{option_eq, option_map, option_to_list}
 use Rattle.model.specs.declared.rules.Sight.{Sight}
 use Rattle.model.specs.Tickets.{Tickets, none}
 use Rattle.model.specs.Scheme.{Scheme, Rule as Creation, Part}
 use Rattle.scheme.specs.Tables.{looked_up}
-use Rattle.scheme_records.specs.declared.record.StoredSet.{StoredSet}
+use Rattle.model.specs.declared.tickets.StoredSet.{StoredSet}
+use Rattle.scheme_records.specs.declared.record.RuleKey.{RuleKey}
+use Rattle.scheme_records.specs.declared.record.ParentSets.{ParentSets}
 use Rattle.scheme_records.specs.declared.record.RuleSets.{RuleSets}
 use Rattle.scheme_records.specs.declared.record.Record.{Record}
 use Rattle.scheme_records.specs.declared.record.Record.TheVariants.{Kind, Right, Alternative, Filter, Demand, Rule}
-use Rattle.scheme_records.specs.Listed.{any, count}
+use Rattle.scheme_records.specs.declared.record.Tag.{Tag}
+use Rattle.scheme_records.specs.declared.record.Tag.TheVariants as tag
+
+-- the number of a tag, and that of a record
+abbrev pub tag_number : Tag → ℕ
+tag_number tag.Kind = 1
+tag_number tag.Right = 2
+tag_number tag.Alternative = 3
+tag_number tag.Filter = 4
+tag_number tag.Demand = 5
+tag_number tag.Rule = 6
 
 abbrev pub tag_of : Record → ℕ
 tag_of (Kind n s) = 1
 tag_of (Right n c) = 2
 tag_of (Alternative l m) = 3
-tag_of (Filter l g t y s) = 4
-tag_of (Demand d y s) = 5
-tag_of (Rule p q c s) = 6
+tag_of (Filter q s) = 4
+tag_of (Demand q s) = 5
+tag_of (Rule q s) = 6
 
 abbrev pub tagged : ℕ → Record → Bool
 tagged t r = tag_of r == t
@@ -31,27 +43,27 @@ abbrev pub subject_kind : ℕ → Record → Bool
 subject_kind k (Kind n s) = n == k && s
 subject_kind k (Right n c) = false
 subject_kind k (Alternative l m) = false
-subject_kind k (Filter l g t y s) = false
-subject_kind k (Demand d y s) = false
-subject_kind k (Rule p q c s) = false
+subject_kind k (Filter q s) = false
+subject_kind k (Demand q s) = false
+subject_kind k (Rule q s) = false
 
 -- the record declares right x as a control right
 abbrev pub control_right : ℕ → Record → Bool
 control_right x (Kind n s) = false
 control_right x (Right n c) = n == x && c
 control_right x (Alternative l m) = false
-control_right x (Filter l g t y s) = false
-control_right x (Demand d y s) = false
-control_right x (Rule p q c s) = false
+control_right x (Filter q s) = false
+control_right x (Demand q s) = false
+control_right x (Rule q s) = false
 
 -- the record is an alternative of link i
 abbrev pub of_link : ℕ → Record → Bool
 of_link i (Kind n s) = false
 of_link i (Right n c) = false
 of_link i (Alternative l m) = l == i
-of_link i (Filter l g t y s) = false
-of_link i (Demand d y s) = false
-of_link i (Rule p q c s) = false
+of_link i (Filter q s) = false
+of_link i (Demand q s) = false
+of_link i (Rule q s) = false
 
 -- every right of the mask m is in n
 abbrev pub within : ℕ → ℕ → Bool
@@ -66,42 +78,39 @@ abbrev pub present : ℕ → Sight → Record → Bool
 present i s (Kind n u) = false
 present i s (Right n c) = false
 present i s (Alternative l m) = l == i && all_within m s
-present i s (Filter l g t y u) = false
-present i s (Demand d y u) = false
-present i s (Rule p q c u) = false
+present i s (Filter q u) = false
+present i s (Demand q u) = false
+present i s (Rule q u) = false
 
 -- the record is the filter's for a link and the types of giver, taker and target
 abbrev pub filter_for : ℕ → ℕ → ℕ → ℕ → Record → Bool
 filter_for i a b k (Kind n s) = false
 filter_for i a b k (Right n c) = false
 filter_for i a b k (Alternative l m) = false
-filter_for i a b k (Filter l g t y s) = l == i && (g == a && (t == b && y == k))
-filter_for i a b k (Demand d y s) = false
-filter_for i a b k (Rule p q c s) = false
+filter_for i a b k (Filter q s) = q.link == i && (q.giver == a && (q.taker == b && q.target == k))
+filter_for i a b k (Demand q s) = false
+filter_for i a b k (Rule q s) = false
 
 -- the record is the demand for the types of demander and target
 abbrev pub demand_for : ℕ → ℕ → Record → Bool
 demand_for b k (Kind n s) = false
 demand_for b k (Right n c) = false
 demand_for b k (Alternative l m) = false
-demand_for b k (Filter l g t y s) = false
-demand_for b k (Demand d y s) = d == b && y == k
-demand_for b k (Rule p q c s) = false
+demand_for b k (Filter q s) = false
+demand_for b k (Demand q s) = q.demander == b && q.target == k
+demand_for b k (Rule q s) = false
 
 abbrev pub same_parent : Option ℕ → Option ℕ → Bool
-same_parent (Some a) (Some b) = a == b
-same_parent (Some a) None = false
-same_parent None (Some b) = false
-same_parent None None = true
+same_parent = option_eq (λ a b. a == b)
 
 -- the record is the rule for the types of the parents, in order, and the child
 abbrev pub rule_for : ℕ → Option ℕ → ℕ → Record → Bool
 rule_for a b k (Kind n s) = false
 rule_for a b k (Right n c) = false
 rule_for a b k (Alternative l m) = false
-rule_for a b k (Filter l g t y s) = false
-rule_for a b k (Demand d y s) = false
-rule_for a b k (Rule p q c s) = p == a && (same_parent q b && c == k)
+rule_for a b k (Filter q s) = false
+rule_for a b k (Demand q s) = false
+rule_for a b k (Rule q s) = q.first == a && (same_parent q.second b && q.child == k)
 
 -- a stored ticket set as it stands
 abbrev pub set_said : StoredSet → Tickets
@@ -112,38 +121,49 @@ abbrev pub set_of : Record → Tickets
 set_of (Kind n s) = none
 set_of (Right n c) = none
 set_of (Alternative l m) = none
-set_of (Filter l g t y s) = set_said s
-set_of (Demand d y s) = set_said s
-set_of (Rule p q c s) = none
+set_of (Filter q s) = set_said s
+set_of (Demand q s) = set_said s
+set_of (Rule q s) = none
 
 -- the ticket set of a record that was found
 abbrev pub set_found : Option Record → Tickets
 set_found None = none
 set_found (Some r) = set_of r
 
-abbrev pub part_said : ℕ → StoredSet → StoredSet → StoredSet → Part
-part_said k c s g = record { kind = k; for_child = set_said c; for_self = set_said s; to_child = set_said g }
+-- the sets of one parent, all sets of a rule, and those that go to the child
+abbrev pub parent_sets : ParentSets → List StoredSet
+parent_sets s = s.for_child ∷ s.for_self ∷ s.to_child ∷ []
+
+abbrev pub all_sets : RuleSets → List StoredSet
+all_sets s =
+    s.first.for_child ∷ s.second.for_child ∷ s.first.for_self ∷ s.second.for_self ∷ s.own ∷ s.first.to_child ∷ s.second.to_child ∷ []
+
+abbrev pub child_sets : RuleSets → List StoredSet
+child_sets s = s.own ∷ s.first.to_child ∷ s.second.to_child ∷ []
+
+-- one parent's part as its kind and its sets say
+abbrev pub part_said : ℕ → ParentSets → Part
+part_said k s = record { kind = k; for_child = set_said s.for_child; for_self = set_said s.for_self; to_child = set_said s.to_child }
 
 -- the creation rule of a rule record
-abbrev pub creation : ℕ → Option ℕ → ℕ → RuleSets → Creation
-creation p q c s = record {
-  first = part_said p s.c1 s.s1 s.g1;
-  second = option_map (λ k. part_said k s.c2 s.s2 s.g2) q;
-  child = c;
-  own = set_said s.h;
+abbrev pub creation : RuleKey → RuleSets → Creation
+creation q s = record {
+  first = part_said q.first s.first;
+  second = option_map (λ k. part_said k s.second) q.second;
+  child = q.child;
+  own = set_said s.own;
 }
+
+abbrev pub creation_said : RuleKey × RuleSets → Creation
+creation_said r = creation r.0 r.1
 
 abbrev pub rule_of : Record → Option Creation
 rule_of (Kind n s) = None
 rule_of (Right n c) = None
 rule_of (Alternative l m) = None
-rule_of (Filter l g t y s) = None
-rule_of (Demand d y s) = None
-rule_of (Rule p q c s) = Some (creation p q c s)
-
-abbrev pub rule_found : Option Record → Option Creation
-rule_found None = None
-rule_found (Some r) = rule_of r
+rule_of (Filter q s) = None
+rule_of (Demand q s) = None
+rule_of (Rule q s) = Some (creation q s)
 
 -- the rules in the records' order
 abbrev pub rules_of : List Record → List Creation
@@ -187,6 +207,6 @@ abbrev pub repeats : List Record → Record → Bool
 repeats rs (Kind n s) = false
 repeats rs (Right n c) = false
 repeats rs (Alternative l m) = false
-repeats rs (Filter l g t y s) = any (filter_for l g t y) rs
-repeats rs (Demand d y s) = any (demand_for d y) rs
-repeats rs (Rule p q c s) = any (rule_for p q c) rs
+repeats rs (Filter q s) = any (filter_for q.link q.giver q.taker q.target) rs
+repeats rs (Demand q s) = any (demand_for q.demander q.target) rs
+repeats rs (Rule q s) = any (rule_for q.first q.second q.child) rs

@@ -7,13 +7,14 @@ pub fn word_at(bytes: &[u8], at: usize) -> u16
     requires { at + 1 < length bytes.now }
     ensures { result ≡ word bytes.now at }
 {
-    u16::from(bytes[at]) * 256 + u16::from(bytes[at + 1])
+    u16::from_be_bytes([bytes[at], bytes[at + 1]])
 }
 
 /// The check of a block with this number over these bytes of it.
 pub fn block_check(number: u16, bytes: &[u8]) -> u32
     ensures { result ≡ checked (number + 1) bytes.now }
 {
+    // A loop over the bytes, by a rule of the project.
     let mut check = u32::from(number) + 1;
     for byte in bytes {
         check = (check * 31 + u32::from(*byte)) % 65521;

@@ -2,14 +2,14 @@
 #![tactic(auto)]
 
 mod block;
+mod masks;
 mod questions;
 mod record;
 mod records;
-mod sought;
 mod walk;
 
 pub use block::{block_at, block_check, count_of, record_bytes, word_at};
-pub use record::{Record, RuleSets, StoredSet, decode};
+pub use masks::{are_within, is_within};
+pub use record::{ParentSets, Record, RuleKey, RuleSets, Tag, decode};
 pub use records::Records;
-pub use sought::{are_within, is_within};
-pub use walk::Sought;
+pub use walk::Walk;

@@ -1,36 +1,44 @@
 //! What records answer: the scheme that they say, and what the check of a file asks about the records before one.
-ghost use Rattle.std.specs.Prelude.{◌≡◌, not, length};
-ghost use Rattle.std.specs.List.{slice_get};
-ghost use Rattle.scheme_records.specs.Listed.{listed, any};
-ghost use Rattle.scheme_records.specs.Said.{said, set_said, set_found, rule_found, tag_above, of_link, repeats};
+ghost use Rattle.std.specs.Prelude.{◌≡◌, length};
+ghost use Rattle.std.specs.List.{slice_get, list_any as any, count_by as count};
+ghost use Rattle.std.specs.Option.{option_map};
+ghost use Rattle.scheme_records.specs.Listed.{listed};
+ghost use Rattle.scheme_records.specs.Said.{said, set_said, set_found, control_right, creation_said, tag_above, tagged, tag_number, of_link, repeats};
 
-use super::record::{Record, StoredSet};
+use super::masks::are_within;
+use super::record::{NOTHING, Record, RuleKey, RuleSets, Tag};
 use super::records::Records;
-use super::sought::{
-    ControlRight, DemandKey, FilterKey, OfLink, Present, RuleKey, SubjectKind, TagAbove, Tagged,
-};
-use model::Sight;
+use model::{DemandKey, FilterKey, Sight, StoredSet};
 
 impl Records<'_> {
+    // How many records have a tag.
+    fn count(self, tag: Tag) -> usize
+        ensures { result ≡ count (tagged (tag_number tag)) (listed self.entry) }
+    {
+        self.iter().filter(|found| found.tag() == tag).count()
+    }
+
     /// How many types are declared.
     pub fn kinds(self) -> usize
         ensures { result ≡ (said (listed self.entry)).kinds }
     {
-        self.count(&Tagged(1))
+        self.count(Tag::Kind)
     }
 
     /// How many rights are declared.
     pub fn rights(self) -> usize
         ensures { result ≡ (said (listed self.entry)).rights }
     {
-        self.count(&Tagged(2))
+        self.count(Tag::Right)
     }
 
     /// How many links there are: one above the highest that has an alternative.
+    #[tactic(auto, unfolding(crate::specs::Said::links_of))]
     pub fn links(self) -> u8
         ensures { result ≡ (said (listed self.entry)).links }
     {
         let mut links = 0;
+        // A `for`: a chain from the last number on was tried, and its proof did not close.
         for link in 0u8..8 {
             if self.declares_link(link) {
                 links = link + 1;
@@ -43,23 +51,38 @@ impl Records<'_> {
     pub fn declares_link(self, link: u8) -> bool
         ensures { result ≡ any (of_link link) (listed self.entry) }
     {
-        self.find(&OfLink(link)).is_some()
+        self.iter().any(
+            |found| matches!(found, Record::Alternative { link: other, .. } if other == link),
+        )
     }
 
     /// Whether a type is declared as a subject.
     pub fn is_subject(self, kind: u8) -> bool
         ensures { result ≡ (said (listed self.entry)).subject kind }
     {
-        self.find(&SubjectKind(kind)).is_some()
+        self.iter().any(
+            |found| matches!(found, Record::Kind { number, subject } if number == kind && subject),
+        )
+    }
+
+    // Whether a right is declared as a control right.
+    fn is_control(self, right: u8) -> bool
+        ensures { result ≡ any (control_right right) (listed self.entry) }
+    {
+        self.iter().any(
+            |found| matches!(found, Record::Right { number, control } if number == right && control),
+        )
     }
 
     /// The mask of the control rights.
+    #[tactic(auto, unfolding(crate::specs::Said::control_of))]
     pub fn control(self) -> u16
         ensures { result ≡ (said (listed self.entry)).control }
     {
         let mut mask = 0u16;
+        // A `for`: a fold over the rights that pass was tried, and its proof did not close.
         for right in 0u8..16 {
-            if self.find(&ControlRight(right)).is_some() {
+            if self.is_control(right) {
                 mask |= 1 << right;
             }
         }
@@ -70,58 +93,51 @@ impl Records<'_> {
     pub fn link(self, link: u8, sight: Sight) -> bool
         ensures { result ≡ (said (listed self.entry)).link link sight }
     {
-        self.find(&Present { link, sight }).is_some()
+        self.iter().any(|found| matches!(
+            found,
+            Record::Alternative { link: other, needs } if other == link && are_within(needs, sight)
+        ))
     }
 
     /// The filter's ticket set.
-    pub fn filter(self, link: u8, giver: u8, taker: u8, target: u8) -> StoredSet
-        ensures { set_said result ≡ (said (listed self.entry)).filter link giver taker target }
+    pub fn filter(self, key: FilterKey) -> StoredSet
+        ensures { set_said result ≡ (said (listed self.entry)).filter key.link key.giver key.taker key.target }
     {
-        set_found(self.find(&FilterKey {
-            link,
-            giver,
-            taker,
-            target,
-        }))
+        set_found(self.iter().find(|found| found.is_filter_for(key)))
     }
 
     /// The demand's ticket set.
-    pub fn demand(self, demander: u8, target: u8) -> StoredSet
-        ensures { set_said result ≡ (said (listed self.entry)).demand demander target }
+    pub fn demand(self, key: DemandKey) -> StoredSet
+        ensures { set_said result ≡ (said (listed self.entry)).demand key.demander key.target }
     {
-        set_found(self.find(&DemandKey { demander, target }))
+        set_found(self.iter().find(|found| found.is_demand_for(key)))
     }
 
     /// How many creation rules there are.
     pub fn rules(self) -> usize
         ensures { result ≡ length (said (listed self.entry)).rules }
     {
-        self.count(&Tagged(6))
+        self.count(Tag::Rule)
     }
 
-    /// The rule's record with a number, counted from 0.
-    pub fn rule(self, number: usize) -> Option<Record>
-        ensures { rule_found result ≡ slice_get (said (listed self.entry)).rules number }
+    /// The key and the sets of the rule with a number, counted from 0.
+    pub fn rule(self, number: usize) -> Option<(RuleKey, RuleSets)>
+        ensures { option_map creation_said result ≡ slice_get (said (listed self.entry)).rules number }
     {
-        let mut left = number;
-        for place in 0..self.places {
-            if let Some(found) = self.at(place) {
-                if found.tag() == 6 {
-                    if left == 0 {
-                        return Some(found);
-                    }
-                    left -= 1;
-                }
-            }
-        }
-        None
+        self.iter()
+            .filter_map(|found| match found {
+                Record::Rule { key, sets } => Some((key, sets)),
+                _ => None,
+            })
+            .nth(number)
     }
 
-    /// Whether some record has a higher tag.
+    /// Whether some record has a tag with a higher number.
+    // A number, and no `Tag`: the narrower type would ask more of callers.
     pub fn has_tag_above(self, tag: u8) -> bool
         ensures { result ≡ any (tag_above tag) (listed self.entry) }
     {
-        self.find(&TagAbove(tag)).is_some()
+        self.iter().any(|found| found.tag() as u8 > tag)
     }
 
     /// Whether some record has the key of this one.
@@ -129,52 +145,17 @@ impl Records<'_> {
         ensures { result ≡ repeats (listed self.entry) found.now }
     {
         match *found {
-            Record::Filter {
-                link,
-                giver,
-                taker,
-                target,
-                ..
-            } => self
-                .find(&FilterKey {
-                    link,
-                    giver,
-                    taker,
-                    target,
-                })
-                .is_some(),
-            Record::Demand {
-                demander,
-                target,
-                ..
-            } => self.find(&DemandKey { demander, target }).is_some(),
-            Record::Rule {
-                first,
-                second,
-                child,
-                ..
-            } => self
-                .find(&RuleKey {
-                    first,
-                    second,
-                    child,
-                })
-                .is_some(),
+            Record::Filter { key, .. } => self.iter().any(|found| found.is_filter_for(key)),
+            Record::Demand { key, .. } => self.iter().any(|found| found.is_demand_for(key)),
+            Record::Rule { key, .. } => self.iter().any(|found| found.is_rule_for(key)),
             _ => false,
         }
     }
 }
 
-// The ticket set of a filter's or demand's record that was found, and the empty set where none was.
+// The ticket set of a filter or demand that was found, and the empty set where none was.
 fn set_found(found: Option<Record>) -> StoredSet
     ensures { set_said result ≡ set_found found }
 {
-    match found {
-        Some(Record::Filter { set, .. }) => set,
-        Some(Record::Demand { set, .. }) => set,
-        _ => StoredSet {
-            plain: 0,
-            copyable: 0,
-        },
-    }
+    found.map_or(NOTHING, |found| found.set())
 }

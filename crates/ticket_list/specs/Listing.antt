@@ -1,19 +1,16 @@
 -- What a ticket list means, and what it keeps true.
-use Rattle.std.specs.Prelude.{◌≡◌, true, false, List, is_some, Some, None, Option}
-use Rattle.std.specs.List.{AllByRecursion}
+use Rattle.std.specs.Prelude.{◌≡◌, ℕ, true, false, List, is_some, Some, None, Option}
+use Rattle.std.specs.List.{All}
 use Rattle.model.specs.declared.tickets.Entity.{Entity}
 use Rattle.model.specs.declared.tickets.TicketSet.{TicketSet}
 use Rattle.model.specs.Tickets.{Tickets, tickets_of, none, empty}
 use Rattle.model.specs.State.{State, Table, Room, kind_in, holding}
 use Rattle.holdings.specs.declared.rows.Rows.{Rows}
 use Rattle.holdings.specs.Rows.{size, in_rows}
-use Rattle.holdings.specs.Rows.{InOrder as RowsInOrder}
-use Rattle.ordered.specs.declared.key.Entry.{Entry}
-use Rattle.ordered.specs.declared.list.OrderedList.{OrderedList}
+use Rattle.ordered.specs.declared.entry.Entry.{Entry}
 use Rattle.ordered.specs.Entries.{value_of}
-use Rattle.ordered.specs.Lists.{InOrder, places, listed}
 use Rattle.ticket_list.specs.declared.pairs.Pair.{Pair}
-use Rattle.ticket_list.specs.Pairs.{comes_before}
+use Rattle.ticket_list.specs.Pairs.{pair_cmp}
 use Rattle.ticket_list.specs.Sizes.{fit}
 
 -- the entries of a list: pairs, and the tickets of each
@@ -27,7 +24,7 @@ tickets_in None = none
 
 -- what each entity has for each
 abbrev pub held : Entries → Table
-held es = λ h y. tickets_in (value_of comes_before es record { holder = h; target = y })
+held es = λ h y. tickets_in (value_of pair_cmp es record { holder = h; target = y })
 
 -- a state with the tickets that are listed
 abbrev pub meant : State → Entries → State
@@ -39,13 +36,11 @@ pub record FilledPair (standing : List Entity) (e : Entry Pair TicketSet) : Type
   pub target : is_some (kind_in standing e.key.target) ≡ true
   pub filled : empty (tickets_of e.value) ≡ false
 
--- room for so many entities and for a pair in each place
-abbrev pub list_room : Rows → OrderedList Pair TicketSet → Room
-list_room rows list = record { rows = size rows; pairs = places list }
+-- room for so many entities and for a pair in each of n places
+abbrev pub list_room : Rows → ℕ → Room
+list_room rows n = record { rows = size rows; pairs = n }
 
--- what a list keeps true: rows and pairs are in order, the memory fits, and every listed pair is filled
-pub record KeptList (rows : Rows) (list : OrderedList Pair TicketSet) : Type 0 where
-  pub rows_order : RowsInOrder rows
-  pub pairs_order : InOrder comes_before list
-  pub fits : fit (size rows) (places list) ≡ true
-  pub filled : AllByRecursion (FilledPair (in_rows rows)) (listed list)
+-- what a list of n places keeps true: the memory fits, and every listed pair is filled
+pub record KeptList (rows : Rows) (n : ℕ) (es : Entries) : Type 0 where
+  pub fits : fit (size rows) n ≡ true
+  pub filled : All (FilledPair (in_rows rows)) es

@@ -1,13 +1,9 @@
 //! The list: rows for entities, and the filled pairs in order.
-ghost use Rattle.std.specs.Prelude.{◌≡◌, true, length};
-ghost use Rattle.model.specs.State.{new};
-ghost use Rattle.holdings.specs.Rows.{roll};
-ghost use Rattle.ordered.specs.Lists.{listed};
-ghost use Rattle.ticket_list.specs.Sizes.{fit};
-ghost use Rattle.ticket_list.specs.Listing.{meant, list_room, KeptList};
-ghost use Rattle.ticket_list.specs.Keeps.{list_orderly};
+ghost use Rattle.std.proofs.Props.{props};
+ghost use Rattle.ordered.specs.Lists.{listed, places};
+ghost use Rattle.ticket_list.specs.Listing.{KeptList};
 
-use super::pairs::{Others, Pair};
+use super::pairs::Pair;
 use holdings::{Holdings, HoldingsMut, Rows};
 use model::{Entity, Refusal, TicketSet};
 use ordered::{Entry, OrderedList};
@@ -17,18 +13,24 @@ use ordered::{Entry, OrderedList};
 pub struct TicketList<'r, 'e> {
     rows: Rows<'r>,
     pairs: OrderedList<'e, Pair, TicketSet>,
+    ghost kept: { KeptList rows (places pairs) (listed pairs) } by { Prim.hlevel props },
 }
 
 impl<'r, 'e> TicketList<'r, 'e> {
+    ghost use Rattle.std.specs.Prelude.{◌≡◌, true, length};
+    ghost use Rattle.model.specs.State.{new};
+    ghost use Rattle.holdings.specs.Rows.{roll};
+    ghost use Rattle.ticket_list.specs.Sizes.{fit};
+    ghost use Rattle.ticket_list.specs.Listing.{meant, list_room};
+
     /// A list in which nobody stands, whatever the memory held. Its sizes fit, as `check` says.
     pub fn new(
         entities: &'r mut [Entity],
         entries: &'e mut [Entry<Pair, TicketSet>],
     ) -> TicketList<'r, 'e>
         requires { fit (length entities.old) (length entries.old) ≡ true }
-        ensures ok { KeptList result.rows result.pairs }
         ensures state { meant (roll result.rows) (listed result.pairs) ≡ new }
-        ensures room { list_room result.rows result.pairs ≡ record { rows = length entities.old; pairs = length entries.old } }
+        ensures room { list_room result.rows (places result.pairs) ≡ record { rows = length entities.old; pairs = length entries.old } }
     {
         TicketList {
             rows: Rows::new(entities),
@@ -38,12 +40,15 @@ impl<'r, 'e> TicketList<'r, 'e> {
 }
 
 impl<'r, 'e> Holdings for TicketList<'r, 'e> {
-    ghost ok = { λ t. KeptList t.rows t.pairs };
+    ghost use Rattle.holdings.specs.Rows.{roll};
+    ghost use Rattle.ticket_list.specs.Listing.{meant};
+    ghost use Rattle.ticket_list.specs.Keeps.{list_orderly};
 
     ghost meaning = { λ t. meant (roll t.rows) (listed t.pairs) };
 
-    ghost orderly = { λ t h. list_orderly t.rows t.pairs h };
+    ghost orderly = { λ t. list_orderly t.rows (places t.pairs) (listed t.pairs) t.kept };
 
+    // Handed on to the rows in a line each, as a cell table hands them on: a trait over what has rows would have as many lines.
     fn next_number(&mut self) -> u32 {
         self.rows.next_number()
     }
@@ -61,15 +66,16 @@ impl<'r, 'e> Holdings for TicketList<'r, 'e> {
     }
 
     fn tickets(&mut self, holder: u32, target: u32) -> TicketSet {
-        match self.pairs.find(Pair { holder, target }) {
-            Some(set) => set,
-            None => TicketSet::none(),
-        }
+        self.pairs
+            .find(Pair { holder, target })
+            .unwrap_or_else(TicketSet::none)
     }
 }
 
 impl<'r, 'e> HoldingsMut for TicketList<'r, 'e> {
-    ghost room = { λ t. list_room t.rows t.pairs };
+    ghost use Rattle.ticket_list.specs.Listing.{list_room};
+
+    ghost room = { λ t. list_room t.rows (places t.pairs) };
 
     fn has_row(&mut self) -> Result<(), Refusal> {
         self.rows.has_row()
@@ -85,7 +91,8 @@ impl<'r, 'e> HoldingsMut for TicketList<'r, 'e> {
 
     fn remove(&mut self, number: u32) {
         if let Some(place) = self.rows.find(number) {
-            self.pairs.retain(&Others { number });
+            self.pairs
+                .retain(|pair| pair.holder != number && pair.target != number);
             self.rows.remove_at(place);
         }
     }
@@ -99,10 +106,7 @@ impl<'r, 'e> HoldingsMut for TicketList<'r, 'e> {
             self.pairs.remove(pair);
             return Ok(());
         }
-        match self.pairs.put(pair, set) {
-            Ok(()) => Ok(()),
-            Err(_) => Err(Refusal::PairsTaken),
-        }
+        self.pairs.put(pair, set).map_err(|_| Refusal::PairsTaken)
     }
 
     fn clear(&mut self) {

@@ -1,14 +1,8 @@
-use Rattle.std.proofs.Common.{◌≡◌, ℕ, ◌+◌, ◌*◌, subst, add-zero, arith}
+use Rattle.std.proofs.Common.{◌≡◌, ◌+◌, ◌*◌, subst, arith}
 use Rattle.std.proofs.lemmas.Nat.{mul-add-lt}
 use Rattle.cells.specs.Squeeze.{Squeezed}
 use Rattle.cells.proofs.Removes.{squeeze_more}
 use Rattle.cells.proofs.squeeze.squeeze_row.Goals as goal
-
-pub loop-j-init : goal.loop-j-init
-loop-j-init c = λ old q. rw add-zero q
-
-pub bounds-cells-i : goal.bounds-cells-i
-bounds-cells-i c = omega (arith, mul-add-lt c.args.i c.args.n c.loop-j.j c.args.n (omega arith) (omega arith))
 
 pub loop-j-preserved : goal.loop-j-preserved
 loop-j-preserved c = λ old q.
@@ -17,9 +11,3 @@ loop-j-preserved c = λ old q.
     let e : a.i * a.n + c.loop-j.j + 1 ≡ a.i * a.n + (c.loop-j.j + 1) = omega arith in
     subst (Squeezed old _ a.n a.out a.count) e
     (squeeze_more old c.loop-j.cells a.n a.out a.count a.i c.loop-j.j c.squeezed_at-word.result (omega arith) (omega arith) c.squeezed_at-word.ensures (c.loop-j.invariant old q))
-
-pub returns : goal.returns
-returns c = λ old q.
-    let a = c.args in
-    let e : c.loop-j.j ≡ a.n = omega arith in
-    subst (λ (k : ℕ). Squeezed old c.loop-j.cells a.n a.out a.count (a.i * a.n + k)) e (c.loop-j.invariant old q)

@@ -1,7 +1,6 @@
-use Rattle.std.proofs.Common.{◌≡◌, ◌+◌, ◌<◌, length, sym, ap, ◌∙◌, subst, arith}
+use Rattle.std.proofs.Common.{◌≡◌, ◌+◌, ◌<◌, length, sym, ap, ◌∙◌, arith}
 use Rattle.std.specs.List.{slice_get}
-use Rattle.std.proofs.lemmas.List.{take_all}
-use Rattle.model.specs.State.{count_targets, count_pairs, filled}
+use Rattle.model.specs.State.{count_targets}
 use Rattle.holdings.proofs.Counting.{not_past, pairs_more, few_pairs}
 use Rattle.holdings.proofs.filling.filled_pairs.Goals as goal
 use Rattle.holdings.proofs.filling.filled_pairs.Goals.{in-Some, in_default}
@@ -14,7 +13,6 @@ overflow_add-filled g c =
     let i = c.loop-place.place in
     let n : c.standing-place-end.result ≡ length st.entities =
     c.standing-place-end.ensures.value ∙ ap (λ x. length (g.H.Holdings.meaning x).entities) (sym c.standing-place-end.ensures.same) in
-    let ok = subst g.H.Holdings.ok (sym c.standing-place-end.ensures.same) c.requires in
     let same = c.entity.ensures.same ∙ c.loop-place.invariant.0 in
     let at = sym (c.entity.ensures.value ∙ ap (λ x. slice_get (g.H.Holdings.meaning x).entities i) c.loop-place.invariant.0) in
     let row = c.filled_targets-filled.ensures.value ∙ ap (λ x. count_targets (g.H.Holdings.meaning x).tickets c.in-Some.holder.number (g.H.Holdings.meaning x).entities) same in
@@ -23,7 +21,7 @@ overflow_add-filled g c =
       row,
       c.loop-place.invariant.1,
       pairs_more st.entities i c.in-Some.holder (omega arith) (at ∙ c.in-Some.is) st.tickets,
-      few_pairs st (g.H.Holdings.orderly m ok) (i + 1) (omega arith),
+      few_pairs st (g.H.Holdings.orderly m) (i + 1) (omega arith),
     )
 
 pub loop-place-preserved : goal.loop-place-preserved
@@ -43,14 +41,3 @@ loop-place-preserved g c =
           (w.holdings-is ∙ w.filled_targets-filled.ensures.same ∙ same, omega (arith, row, w.filled-is, c.loop-place.invariant.1))
       | in_default w ↦ absurd (not_past st.entities i here (at ∙ w.in_default.is))
     ]
-
-pub returns : goal.returns
-returns g c =
-    let st = g.H.Holdings.meaning c.standing-place-end.new.self in
-    let same = c.standing-place-end.ensures.same in
-    let n : c.standing-place-end.result ≡ length st.entities = c.standing-place-end.ensures.value ∙ ap (λ x. length (g.H.Holdings.meaning x).entities) (sym same) in
-    record {
-      same = c.loop-place.invariant.0 ∙ same;
-      value = c.loop-place.invariant.1 ∙ ap (λ hs. count_pairs st.tickets hs st.entities) (take_all c.loop-place.place st.entities (omega arith))
-          ∙ ap (λ x. filled (g.H.Holdings.meaning x)) same;
-    }

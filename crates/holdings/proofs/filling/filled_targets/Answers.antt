@@ -1,9 +1,8 @@
-use Rattle.std.proofs.Common.{◌≡◌, ℕ, ◌<◌, length, sym, ap, ◌∙◌, subst, arith}
+use Rattle.std.proofs.Common.{◌≡◌, ℕ, ◌<◌, length, sym, ap, ◌∙◌, arith}
 use Rattle.std.specs.List.{slice_get}
-use Rattle.std.proofs.lemmas.List.{take_all}
 use Rattle.std.proofs.lemmas.Bool.{cond-true, cond-false}
 use Rattle.model.specs.Tickets.{empty, tickets_of}
-use Rattle.model.specs.State.{count_targets, takes}
+use Rattle.model.specs.State.{takes}
 use Rattle.holdings.proofs.Counting.{not_past, targets_more, few_targets}
 use Rattle.holdings.proofs.filling.filled_targets.Goals as goal
 use Rattle.holdings.proofs.filling.filled_targets.Goals.{in-Some+then-not-is_empty, in-Some+else-not-is_empty, in_default}
@@ -13,8 +12,7 @@ overflow_add-filled g c =
     let m = c.standing-place-end.new.self in
     let n : c.standing-place-end.result ≡ length (g.H.Holdings.meaning m).entities =
     c.standing-place-end.ensures.value ∙ ap (λ x. length (g.H.Holdings.meaning x).entities) (sym c.standing-place-end.ensures.same) in
-    let ok = subst g.H.Holdings.ok (sym c.standing-place-end.ensures.same) c.requires in
-    omega (arith, c.loop-place.invariant.1, few_targets (g.H.Holdings.meaning m) (g.H.Holdings.orderly m ok) c.args.holder c.loop-place.place (omega arith))
+    omega (arith, c.loop-place.invariant.1, few_targets (g.H.Holdings.meaning m) (g.H.Holdings.orderly m) c.args.holder c.loop-place.place (omega arith))
 
 pub loop-place-preserved : goal.loop-place-preserved
 loop-place-preserved g c =
@@ -43,15 +41,3 @@ loop-place-preserved g c =
           (w.holdings-is ∙ w.tickets.ensures.same ∙ same, omega (arith, w.filled-is, c.loop-place.invariant.1))
       | in_default w ↦ absurd (not_past st.entities i here (at ∙ w.in_default.is))
     ]
-
-pub returns : goal.returns
-returns g c =
-    let m = c.standing-place-end.new.self in
-    let st = g.H.Holdings.meaning m in
-    let same = c.standing-place-end.ensures.same in
-    let n : c.standing-place-end.result ≡ length st.entities = c.standing-place-end.ensures.value ∙ ap (λ x. length (g.H.Holdings.meaning x).entities) (sym same) in
-    record {
-      same = c.loop-place.invariant.0 ∙ same;
-      value = c.loop-place.invariant.1 ∙ ap (count_targets st.tickets c.args.holder) (take_all c.loop-place.place st.entities (omega arith))
-          ∙ ap (λ x. count_targets (g.H.Holdings.meaning x).tickets c.args.holder (g.H.Holdings.meaning x).entities) same;
-    }

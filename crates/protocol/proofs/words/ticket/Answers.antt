@@ -1,5 +1,4 @@
-use Rattle.std.proofs.Common.{◌∷◌, ◌++◌, Some, None, sym, ap, ◌∙◌, lit<}
-use Rattle.std.proofs.lemmas.Str.Pattern.{split_parts}
+use Rattle.std.proofs.Common.{None}
 use Rattle.protocol.proofs.Saying.{slash, has_number, has_right}
 use Rattle.protocol.proofs.words.ticket.Goals as goal
 
@@ -16,14 +15,3 @@ returns-in_err-right c =
     let cut = c.in_ok-target.ensures.cases in
     rw c.from_residual-in_err-right.ensures
     (λ t said. has_right said (c.in_ok-target.target, c.in_ok-target.rest) cut _ _ c.flagged-copy.ensures.whole c.flagged-copy.ensures.cut c.in_err-right.ensures)
-
-pub returns : goal.returns
-returns c =
-    let cut = c.in_ok-target.ensures.cases in
-    record {
-      number = c.in_ok-target.target.now;
-      right = c.flagged-copy.result.0.now;
-      parts = (split_parts 47 c.args.word.now (Some (c.in_ok-target.target, c.in_ok-target.rest)) cut (lit< tt)).0 ∙ ap (λ rest. c.in_ok-target.target.now ++ (47 ∷ rest)) c.flagged-copy.ensures.whole;
-      target = sym c.in_ok-target-2.ensures;
-      right_is = sym c.in_ok-right.ensures;
-    }

@@ -6,8 +6,8 @@ use Rattle.register.proofs.Shares.{other_pairs, birth_filled}
 use Rattle.register.proofs.births.birth_pairs.Goals as goal
 use Rattle.register.proofs.births.birth_pairs.Goals.{in-Some, in-None}
 
-pub returns : goal.returns
-returns g c =
+pub returns-clause-value : goal.returns-clause-value
+returns-clause-value g c =
     let h = c.args.holdings.now in
     let st = g.H.Holdings.meaning h in
     let v = c.args.birth in
@@ -21,7 +21,4 @@ returns g c =
           )
       | in-None w ↦ (w.holdings-is ∙ e.same, w.second-is ∙ ap (other_pairs st.tickets) (sym w.in-None.is))
     ] in
-    record {
-      same = second.0;
-      value = omega (arith, e.value, second.1, own, birth_filled st (g.H.Holdings.orderly h c.requires.ok) v c.requires.parents);
-    }
+    omega (arith, e.value, second.1, own, birth_filled st (g.H.Holdings.orderly h) v c.requires.parents)

@@ -5,8 +5,8 @@ use Rattle.model.specs.Calls.{after}
 use Rattle.register.proofs.Shares.{gain_stored}
 use Rattle.register.proofs.births.give.Goals as goal
 
-pub returns : goal.returns
-returns g c =
+pub returns-clause-state : goal.returns-clause-state
+returns-clause-state g c =
     let h = c.args.holdings.now in
     let st = g.H.Holdings.meaning h in
     let a = c.args.holder in
@@ -14,9 +14,5 @@ returns g c =
     let s = tickets_of c.args.set in
     let e = c.gain_set.ensures in
     let done = e.answer
-    ∙ gain_stored (g.H.HoldingsMut.room h) st (g.H.Holdings.orderly h c.requires.ok).rising a y s c.requires.holder c.requires.target c.requires.fits in
-    record {
-      ok = e.ok;
-      room = e.room;
-      state = e.state ∙ ap (λ q. after q (stored st a y (join (st.tickets a y) s)) st) done;
-    }
+    ∙ gain_stored (g.H.HoldingsMut.room h) st (g.H.Holdings.orderly h).rising a y s c.requires.holder c.requires.target c.requires.fits in
+    e.state ∙ ap (λ q. after q (stored st a y (join (st.tickets a y) s)) st) done

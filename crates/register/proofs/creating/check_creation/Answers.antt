@@ -10,10 +10,11 @@ use Rattle.register.proofs.creating.check_creation.Goals as goal
 use Rattle.register.proofs.creating.check_creation.Goals.{After-has_pairs}
 
 -- the pairs decide
+
 last_decides : (g : given.Over) (c : After-has_pairs g)
     → (c.has_pairs.new.self ≡ c.args.holdings.now)
     × (cond c.has_pairs.result (granted tt) (refused 11)
-    ≡ passed (checks (g.S.Scheme.meaning c.args.scheme.now) (g.H.HoldingsMut.room c.args.holdings.now) (g.H.Holdings.meaning c.args.holdings.now) (creation c.args.parent c.args.second c.args.kind)))
+    ≡ passed (checks (g.S.Scheme.meaning c.args.scheme.now) (g.H.HoldingsMut.room c.args.holdings.now) (g.H.Holdings.meaning c.args.holdings.now) (creation c.args.parents.first c.args.parents.second c.args.kind)))
 last_decides g c =
     let h = c.args.holdings.now in
     let S = g.S.Scheme.meaning c.args.scheme.now in
@@ -28,30 +29,29 @@ last_decides g c =
     let fills = subst (λ z. filled (g.H.Holdings.meaning z) + more ≡ filled (brought (g.H.Holdings.meaning z) v)) row_same c.birth_pairs-more.ensures.value in
     let has = c.has_pairs.ensures.answer ∙ ap (λ z. leb (filled (g.H.Holdings.meaning z) + more) (g.H.HoldingsMut.room z).pairs) more_same in (
       c.has_pairs.ensures.same ∙ more_same,
-      pairs_decide S R st c.args.parent c.args.second c.args.kind rule.answer (g.H.Holdings.orderly h c.requires) (rule_of c.in_ok-rule.rule) rule.rule v c.by-birth.ensures row more fills c.has_pairs.result has,
+      pairs_decide S R st c.args.parents.first c.args.parents.second c.args.kind rule.answer (g.H.Holdings.orderly h) (rule_of c.in_ok-rule.rule) rule.rule v c.by-birth.ensures row more fills c.has_pairs.result has,
     )
 
-pub returns-then-not-has_pairs : goal.returns-then-not-has_pairs
-returns-then-not-has_pairs g c =
-    let d = last_decides g (goal.at.returns-then-not-has_pairs g c).After-has_pairs in
-    record { same = d.0; answer = sym (ap (λ (t : Bool). cond t (granted tt) (refused 11)) c.if-not-has_pairs.true) ∙ d.1; birth = tt }
+pub returns-then-not-has_pairs-clause-answer : goal.returns-then-not-has_pairs-clause-answer
+returns-then-not-has_pairs-clause-answer g c =
+    let d = last_decides g (goal.at.returns-then-not-has_pairs-clause-answer g c).After-has_pairs in
+    sym (ap (λ (t : Bool). cond t (granted tt) (refused 11)) c.if-not-has_pairs.true) ∙ d.1
 
-pub returns : goal.returns
-returns g c =
+pub returns-clause-answer : goal.returns-clause-answer
+returns-clause-answer g c =
+    let d = last_decides g (goal.at.returns-clause-answer g c).After-has_pairs in
+    sym (ap (λ (t : Bool). cond t (granted tt) (refused 11)) c.if-not-has_pairs.false) ∙ d.1
+
+pub returns-clause-birth : goal.returns-clause-birth
+returns-clause-birth g c =
     let h = c.args.holdings.now in
     let S = g.S.Scheme.meaning c.args.scheme.now in
     let R = g.H.HoldingsMut.room h in
     let st = g.H.Holdings.meaning h in
-    let o = g.H.Holdings.orderly h c.requires in
+    let o = g.H.Holdings.orderly h in
     let rule = c.in_ok-rule.ensures in
     let r = rule_of c.in_ok-rule.rule in
-    let v = c.by-birth.result in
-    let d = last_decides g (goal.at.returns g c).After-has_pairs in
-    record {
-      same = d.0;
-      answer = sym (ap (λ (t : Bool). cond t (granted tt) (refused 11)) c.if-not-has_pairs.false) ∙ d.1;
-      birth = (
-        parents_stand S R st c.args.parent c.args.second c.args.kind rule.answer o r rule.rule v c.by-birth.ensures,
-        brought_is S R st c.args.parent c.args.second c.args.kind rule.answer o r rule.rule v c.by-birth.ensures,
-      );
-    }
+    let v = c.by-birth.result in (
+      parents_stand S R st c.args.parents.first c.args.parents.second c.args.kind rule.answer o r rule.rule v c.by-birth.ensures,
+      brought_is S R st c.args.parents.first c.args.parents.second c.args.kind rule.answer o r rule.rule v c.by-birth.ensures,
+    )

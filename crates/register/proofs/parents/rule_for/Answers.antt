@@ -1,6 +1,6 @@
 use Rattle.std.proofs.Common.{◌<◌, length, sym, ◌∙◌, arith}
 use Rattle.model.specs.Scheme.{rule_of}
-use Rattle.register.proofs.RuleSearch.{rule_here, rule_past, some_rule, no_rule}
+use Rattle.register.proofs.RuleSearch.{rule_here, rule_past, some_rule}
 use Rattle.register.proofs.parents.rule_for.Goals as goal
 use Rattle.register.proofs.parents.rule_for.Goals.{in-Some+else-is_for, in_default}
 
@@ -22,8 +22,3 @@ loop-number-preserved g c =
           (sym w.is_for.ensures ∙ w.if-is_for.false)
       | in_default w ↦ absurd (some_rule S c.args.parents.first c.args.parents.second c.args.child i l (sym w.in_default.ensures))
     ]
-
-pub returns : goal.returns
-returns g c =
-    let S = g.S.Scheme.meaning c.args.scheme.now in
-    no_rule S c.args.parents.first c.args.parents.second c.args.child c.loop-number.number (omega (arith, c.rules-number-end.ensures)) c.loop-number.invariant

@@ -1,4 +1,4 @@
-use Rattle.std.proofs.Common.{◌≡◌, ℕ, ◌+◌, ◌*◌, ◌≤◌, length, sym, refl, ap, ◌∙◌, arith}
+use Rattle.std.proofs.Common.{◌≡◌, ℕ, ◌+◌, ◌*◌, ◌≤◌, length, sym, ap, ◌∙◌, arith}
 use Rattle.std.proofs.lemmas.Bool.{le-leb}
 use Rattle.holdings.specs.Rows.{size, in_rows, roll}
 use Rattle.model.specs.State.{filled}
@@ -16,23 +16,17 @@ module _ (c : After-pairs_of) where
   used_pairs = c.pairs_of.ensures ∙ ap (λ (n : ℕ). n * n) c.standing.ensures
 
   used_within : c.pairs_of.result ≤ c.pairs_of-pairs.result
-  used_within = omega (arith, all_pairs, used_pairs, used_le c.args.self.now.rows c.args.self.now.cells.now c.requires)
+  used_within = omega (arith, all_pairs, used_pairs, used_le c.args.self.now.rows c.args.self.now.cells.now c.args.self.now.laid)
 
   filled_within : filled (meant (roll c.args.self.now.rows) (size c.args.self.now.rows) c.args.self.now.cells.now) ≤ c.pairs_of.result
-  filled_within = omega (arith, used_pairs, filled_le c.args.self.now.rows c.args.self.now.cells.now c.requires)
-
-pub overflow_sub-pairs : goal.overflow_sub-pairs
-overflow_sub-pairs c = used_within c
+  filled_within = omega (arith, used_pairs, filled_le c.args.self.now.rows c.args.self.now.cells.now c.args.self.now.laid)
 
 pub overflow_sub-result : goal.overflow_sub-result
 overflow_sub-result c = omega (arith, c.filled_pairs.ensures.value, used_within (goal.at.overflow_sub-result c).After-pairs_of, filled_within (goal.at.overflow_sub-result c).After-pairs_of)
 
-pub returns-then-more-pairs : goal.returns-then-more-pairs
-returns-then-more-pairs c =
-    let d = (goal.at.returns-then-more-pairs c).After-pairs_of in
-    record {
-      same = refl;
-      answer = le-leb c.args.more _ c.if-more-pairs.true
-          ∙ sym (le-leb (filled (meant (roll c.args.self.now.rows) (size c.args.self.now.rows) c.args.self.now.cells.now) + c.args.more)
-          (size c.args.self.now.rows * size c.args.self.now.rows) (omega (arith, all_pairs d, used_within d, filled_within d, c.if-more-pairs.true)));
-    }
+pub returns-then-more-pairs-clause-answer : goal.returns-then-more-pairs-clause-answer
+returns-then-more-pairs-clause-answer c =
+    let d = (goal.at.returns-then-more-pairs-clause-answer c).After-pairs_of in
+    le-leb c.args.more _ c.if-more-pairs.true
+    ∙ sym (le-leb (filled (meant (roll c.args.self.now.rows) (size c.args.self.now.rows) c.args.self.now.cells.now) + c.args.more)
+    (size c.args.self.now.rows * size c.args.self.now.rows) (omega (arith, all_pairs d, used_within d, filled_within d, c.if-more-pairs.true)))

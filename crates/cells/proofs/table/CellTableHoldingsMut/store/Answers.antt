@@ -1,26 +1,25 @@
-use Rattle.std.proofs.Common.{refl}
 use Rattle.model.specs.Tickets.{tickets_of}
 use Rattle.cells.proofs.Stores.{no_cell, stored_answer, stored_state, stored_laid}
 use Rattle.cells.proofs.table.CellTableHoldingsMut.store.Goals as goal
 
-pub returns-in_default : goal.returns-in_default
-returns-in_default c =
-    let t = c.args.self.now in
-    record {
-      ok = c.requires;
-      room = refl;
-      answer = no_cell t.rows t.cells.now c.requires c.args.holder c.args.target (tickets_of c.args.set) c.in_default.ensures.cell;
-      state = refl;
-    }
+pub returns-in_default-clause-answer : goal.returns-in_default-clause-answer
+returns-in_default-clause-answer c =
+    let t = c.args.self.now in no_cell t.rows t.cells.now t.laid c.args.holder c.args.target (tickets_of c.args.set) c.in_default.ensures.cell
 
-pub returns : goal.returns
-returns c =
+pub invariant_of-self : goal.invariant_of-self
+invariant_of-self c =
     let t = c.args.self.now in
-    let at = c.in-Some.ensures.cell in
     let s = tickets_of c.args.set in
-    record {
-      ok = stored_laid t.rows t.cells.now c.requires c.args.holder c.args.target s c.in-Some.cell c.packed.result at c.packed.ensures.word c.packed.ensures.nested;
-      room = refl;
-      answer = stored_answer t.rows t.cells.now c.requires c.args.holder c.args.target s c.in-Some.cell c.packed.result at c.packed.ensures.word;
-      state = stored_state t.rows t.cells.now c.requires c.args.holder c.args.target s c.in-Some.cell c.packed.result at c.packed.ensures.word c.in-Some.ensures.within;
-    }
+    record { laid = stored_laid t.rows t.cells.now t.laid c.args.holder c.args.target s c.in-Some.cell c.packed.result c.in-Some.ensures.cell c.packed.ensures.word c.packed.ensures.nested }
+
+pub returns-clause-answer : goal.returns-clause-answer
+returns-clause-answer c =
+    let t = c.args.self.now in
+    let s = tickets_of c.args.set in
+    stored_answer t.rows t.cells.now t.laid c.args.holder c.args.target s c.in-Some.cell c.packed.result c.in-Some.ensures.cell c.packed.ensures.word
+
+pub returns-clause-state : goal.returns-clause-state
+returns-clause-state c =
+    let t = c.args.self.now in
+    let s = tickets_of c.args.set in
+    stored_state t.rows t.cells.now t.laid c.args.holder c.args.target s c.in-Some.cell c.packed.result c.in-Some.ensures.cell c.packed.ensures.word c.in-Some.ensures.within

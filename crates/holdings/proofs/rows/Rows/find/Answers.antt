@@ -1,23 +1,12 @@
-use Rattle.std.proofs.Common.{arith}
-use Rattle.holdings.proofs.Searches.{lower_half, higher_half, found, not_found}
+use Rattle.std.proofs.Common.{rules, List, sym, subst, ◌∙◌}
+use Rattle.std.proofs.lemmas.Fn.{always_returns_same}
+use Rattle.model.specs.declared.tickets.Entity.{Entity}
+use Rattle.model.specs.Laws.{Rising}
+use Rattle.holdings.proofs.Searches.{found}
 use Rattle.holdings.proofs.rows.Rows.find.Goals as goal
-
-pub returns-then-found-number : goal.returns-then-found-number
-returns-then-found-number c =
-    let s = c.args.self.now in
-    found s.entities.now s.count s.next c.args.number c.requires _ (omega arith) c.if-found-number.true
-
-pub loop-low-preserved-then-found-number-2 : goal.loop-low-preserved-then-found-number-2
-loop-low-preserved-then-found-number-2 c =
-    let s = c.args.self.now in
-    (c.loop-low.invariant.0, lower_half s.entities.now s.count s.next c.args.number c.requires _ (omega arith) c.if-found-number-2.true, c.loop-low.invariant.2)
-
-pub loop-low-preserved : goal.loop-low-preserved
-loop-low-preserved c =
-    let s = c.args.self.now in
-    (omega arith, c.loop-low.invariant.1, higher_half s.entities.now s.count s.next c.args.number c.requires _ (omega arith) (omega arith))
 
 pub returns : goal.returns
 returns c =
     let s = c.args.self.now in
-    not_found s.entities.now s.count s.next c.args.number c.requires c.loop-low.low c.loop-low.high (omega arith) c.loop-low.invariant.1 c.loop-low.invariant.2
+    let at = c.binary_search_by_key.ensures.position (λ e. e.number) (always_returns_same _ _ _ (λ x r f' k. search rules)) in
+    c.ok.ensures.value ∙ rw (← c.taken.ensures) (found 1 s.next c.args.number _ (subst (λ (es : List Entity). Rising 1 es s.next) (sym c.taken.ensures) s.order.rising) _ c.binary_search_by_key.ensures.bound at)

@@ -1,9 +1,13 @@
-use Rattle.ordered.proofs.Changes.{stayed}
+use Rattle.std.proofs.Common.{arith}
+use Rattle.ordered.proofs.Filtered.{retained, retained_rises}
 use Rattle.ordered.proofs.list.OrderedList.retain.Goals as goal
 
-pub returns : goal.returns
-returns g c =
-    let m = g.met.K.Key in
-    let e = c.retain_in-self.ensures in
-    let f = stayed g.K.Key.before record { irreflexive = m.irreflexive; transitive = m.transitive; total = m.total } c.args.self.now.entries.now c.args.self.now.count c.requires.fits c.requires.rising (g.T.Keep.keeps c.args.test.now) c.retain_in-self.new.entries c.retain_in-self.result e.within c.retain_in-self.auto.entries e.left in
-    record { order = record { fits = f.fits; rising = f.rising }; kept = c.retain_in-self.auto.entries; listed = f.is }
+pub invariant_of-self-clause-rising : goal.invariant_of-self-clause-rising
+invariant_of-self-clause-rising g c =
+    let e = c.retain_in_front-self.ensures in
+    retained_rises g.K.Ord.cmp _ _ _ _ _ (omega (arith, e.within, e.length)) e.filtered c.args.self.now.rising
+
+pub returns-clause-listed : goal.returns-clause-listed
+returns-clause-listed g c test h =
+    let e = c.retain_in_front-self.ensures in
+    retained g.K.Ord.cmp _ _ _ _ _ (omega (arith, e.within, e.length)) e.filtered test h

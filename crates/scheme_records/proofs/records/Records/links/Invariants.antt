@@ -1,5 +1,6 @@
 use Rattle.std.proofs.Common.{◌≡◌}
-use Rattle.scheme_records.specs.Listed.{listed, any}
+use Rattle.std.specs.List.{list_any as any}
+use Rattle.scheme_records.specs.Listed.{listed}
 use Rattle.scheme_records.specs.Said.{of_link, above}
 use Rattle.scheme_records.proofs.records.Records.links.Given as goal
 

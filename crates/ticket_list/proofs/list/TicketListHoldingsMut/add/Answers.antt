@@ -1,16 +1,9 @@
-use Rattle.std.proofs.Common.{ℕ, ap}
 use Rattle.model.specs.Refusals.{told}
-use Rattle.ordered.specs.Lists.{places}
-use Rattle.ticket_list.proofs.Changes.{added_kept, added_state}
+use Rattle.ordered.specs.Lists.{listed, places}
+use Rattle.ticket_list.proofs.Changes.{added_kept}
 use Rattle.ticket_list.proofs.list.TicketListHoldingsMut.add.Goals as goal
 
-pub returns : goal.returns
-returns c =
+pub invariant_of-self : goal.invariant_of-self
+invariant_of-self c =
     let t = c.args.self.now in
-    let e = c.add.ensures in
-    record {
-      ok = added_kept t.rows c.add.new.self t.pairs c.args.kind (told c.add.result) c.requires e.kept e.order e.state;
-      room = ap (λ (n : ℕ). record { rows = n; pairs = places t.pairs }) e.kept;
-      answer = e.answer;
-      state = added_state t.rows c.add.new.self t.pairs c.args.kind (told c.add.result) c.requires e.kept e.order e.state;
-    }
+    record { kept = added_kept t.rows c.add.new.self (places t.pairs) (listed t.pairs) c.args.kind (told c.add.result) t.kept c.add.ensures.kept c.add.ensures.state }

@@ -1,18 +1,14 @@
-use Rattle.std.proofs.Common.{ℕ, ◌+◌, ◌-◌, leb, length, sym, refl, ap, ◌∙◌, ap₂, arith}
-use Rattle.ordered.specs.Lists.{places, listed}
+use Rattle.std.proofs.Common.{ℕ, ◌+◌, ◌-◌, leb, length, sym, ap, ◌∙◌, ap₂, arith}
+use Rattle.std.proofs.lemmas.List.{length-take-le}
+use Rattle.ordered.specs.Lists.{listed, places}
 use Rattle.ticket_list.proofs.Counts.{beside}
-use Rattle.ticket_list.proofs.Changes.{filled_is, listed_within}
+use Rattle.ticket_list.proofs.Changes.{filled_is}
 use Rattle.ticket_list.proofs.list.TicketListHoldingsMut.has_pairs.Goals as goal
 
-pub overflow_sub-result : goal.overflow_sub-result
-overflow_sub-result c = omega (arith, c.len.ensures, c.capacity.ensures, listed_within c.args.self.now.rows c.args.self.now.pairs c.requires)
-
-pub returns : goal.returns
-returns c =
+pub returns-clause-answer : goal.returns-clause-answer
+returns-clause-answer c =
     let t = c.args.self.now in
-    record {
-      same = refl;
-      answer = ap₂ (λ (m n : ℕ). leb c.args.more (m - n)) c.capacity.ensures c.len.ensures
-          ∙ beside c.args.more (length (listed t.pairs)) (places t.pairs) (listed_within t.rows t.pairs c.requires)
-          ∙ ap (λ (n : ℕ). leb (n + c.args.more) (places t.pairs)) (sym (filled_is t.rows t.pairs c.requires));
-    }
+    let n = places t.pairs in
+    ap₂ (λ (m n : ℕ). leb c.args.more (m - n)) c.capacity.ensures c.len.ensures
+    ∙ beside c.args.more (length (listed t.pairs)) n (omega (arith, length-take-le t.pairs.count t.pairs.entries.now t.pairs.fits, t.pairs.fits))
+    ∙ ap (λ (k : ℕ). leb (k + c.args.more) n) (sym (filled_is t.rows n (listed t.pairs) t.kept t.pairs.rising))

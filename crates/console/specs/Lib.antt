@@ -1,0 +1,3 @@
+pub mod Knowing
+pub mod Going
+pub mod Lines

@@ -1,0 +1,5 @@
+use Rattle.register.proofs.Books.{same_book}
+use Rattle.register.proofs.book.BookHoldings.next_number.Goals as goal
+
+pub returns-clause-same : goal.returns-clause-same
+returns-clause-same g c = same_book c.args.self.now _ _ c.next_number.ensures.same

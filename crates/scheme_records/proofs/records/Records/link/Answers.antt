@@ -1,0 +1,9 @@
+use Rattle.std.proofs.Common.{rules}
+use borrow.Author.Tests.{tests}
+use Rattle.std.proofs.lemmas.Iterator.Search.{any_from_yields_List}
+use Rattle.scheme_records.specs.Said.{present}
+use Rattle.scheme_records.proofs.Walking.{walks}
+use Rattle.scheme_records.proofs.records.Records.link.Goals as goal
+
+pub returns : goal.returns
+returns c = any_from_yields_List (present c.args.link c.args.sight) c.any.new.self _ c.any.result c.any.ensures.ran (walks c.iter.ensures) (λ x b q k. search (rules, tests))

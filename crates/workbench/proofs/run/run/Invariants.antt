@@ -1,7 +1,0 @@
-use Rattle.std.proofs.Common.{◌+◌, ◌*◌, cond, is_some}
-use Rattle.protocol.specs.Scripts.{left_of}
-use Rattle.workbench.proofs.run.run.Given as goal
-
--- a phase that ends before the script does has read a line
-abbrev pub decreases-loop-next : goal.decreases-loop-next
-decreases-loop-next l = 2 * left_of l.script + cond (is_some l.next) 1 0
