@@ -1,5 +1,5 @@
 -- The lines that commands are answered with in each phase of a script, what they leave, and what the script goes on with.
-use Rattle.std.specs.Prelude.{◌≡◌, ℕ, ◌*◌, ◌⊎◌, List, codes, Ok, Err, Result}
+use Rattle.std.specs.Prelude.{◌≡◌, ℕ, ◌*◌, Bool, true, ◌⊎◌, List, codes, Ok, Err, Result}
 use Rattle.std.specs.declared.ops.ControlFlow.{ControlFlow}
 use Rattle.std.specs.declared.ops.ControlFlow.TheVariants.{Continue, Break}
 use Rattle.model.specs.Refusals.{bare}
@@ -21,6 +21,7 @@ use Rattle.model.specs.declared.refusal.Refusal.{Refusal}
 use Rattle.protocol.specs.Answers.{line, done_line, number_line, ask_line}
 use Rattle.cells.specs.Layout.{fit_answer as cells_answer}
 use Rattle.ticket_list.specs.Sizes.{fit_answer as list_answer}
+use Rattle.console.specs.Knowing.{is_known}
 use Rattle.console.specs.Going.{FileRefused, Chooses, Begins, NotChosen, TurnedDown}
 use Rattle.console.specs.declared.start.ChosenScheme.{ChosenScheme}
 use Rattle.console.specs.declared.start.Next.{Next}
@@ -100,6 +101,10 @@ SetUpGoes (command.Entry (entry.Place h t)) (Continue a) = Unit {0}
 SetUpGoes (command.Entry entry.Open) (Continue a) = ⊥
 SetUpGoes (command.Call c) (Continue a) = Unit {0}
 SetUpGoes command.Show (Continue a) = Unit {0}
+
+-- what a script goes on with comes of a command that the program knows
+abbrev pub ComesOf : {N : Type 0} → (Start → Bool) → (Command → ControlFlow N Answer → Type 0) → N → Type 0
+ComesOf knows goes next = (c : Command) × (is_known knows c ≡ true) × goes c (Break next)
 
 module _ (S : Scheme) (R : Room) (st : State) where
   -- the commands of a set-up, and what is then left of its state

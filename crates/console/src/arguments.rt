@@ -88,6 +88,6 @@ fn run_script<R: Runtime + AllocGlobal, P: Program>(
     notes: bool,
 ) -> anyhow::Result<()> {
     let session = Session { rt, program, notes };
-    session.run(text, Memory::new(rt.alloc())?)?;
+    session.run(text, Memory::new(rt.alloc(), program)?)?;
     Ok(())
 }

@@ -1,7 +1,6 @@
 //! What the program can be told.
 use super::program::Program;
 use model::Refusal;
-use protocol::Start;
 use std::io;
 
 const BEGINNING: &str = "\
@@ -79,7 +78,7 @@ pub fn help<R: Print, P: Program>(rt: &R, program: &P) -> io::Result<()> {
     println!(rt; "{name} --notes FILE  the same, with a sentence below each answer")?;
     println!(rt; "{name} --help        prints this text\n")?;
     println!(rt; "{BEGINNING}")?;
-    if program.knows(Start::List { rows: 1, pairs: 1 }) {
+    if program.knows_lists() {
         println!(rt; "{LISTS}")?;
     }
     println!(rt; "{COMMANDS}")?;

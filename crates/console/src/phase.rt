@@ -159,6 +159,16 @@ impl<S: Scheme, H: HoldingsMut> Phase for Register<S, H> {
     }
 }
 
+/// The answer to a command, by what a part gave: where the part ends, it is ok.
+pub fn answered<N: Drop>(flow: &ControlFlow<N, Answer>) -> Answer
+    ensures { line result ≡ told flow.now }
+{
+    match flow {
+        Continue(answer) => *answer,
+        Break(_) => Answer::Done,
+    }
+}
+
 // What a script goes on with ends a part, and an answer does not.
 fn going<N: Drop>(res: Result<N, Answer>) -> ControlFlow<N, Answer>
     ensures { MatchControlFlow result (λ a. res ≡ Err a) (λ next. res ≡ Ok next) }

@@ -1,6 +1,7 @@
 //! A program: its name, and which commands it knows.
 ghost use Rattle.std.specs.Prelude.{◌≡◌, ℕ, Bool, List, MatchOption};
 ghost use Rattle.protocol.specs.declared.command.Start.{Start};
+ghost use Rattle.protocol.specs.declared.command.Start.TheVariants as start;
 ghost use Rattle.protocol.specs.Scripts.{words_of};
 ghost use Rattle.console.specs.Knowing.{SayNone, Say};
 
@@ -15,6 +16,9 @@ pub trait Program {
     /// Which of the commands that start over it knows.
     ghost knows: { Start → Bool };
 
+    /// It knows ticket lists of every size, or of none.
+    ghost all_or_none: { (n p m q : ℕ) → knows (start.List n p) ≡ knows (start.List m q) };
+
     /// Its name, as its texts say it.
     fn name(&self) -> &'static str
         ensures { result.now ≡ named };
@@ -22,6 +26,13 @@ pub trait Program {
     /// Whether it knows a command that starts over.
     fn knows(&self, start: Start) -> bool
         ensures { result ≡ knows start.entry };
+
+    /// Whether it knows ticket lists.
+    fn knows_lists(&self) -> bool
+        ensures { result ≡ knows (start.List 1 1) }
+    {
+        self.knows(Start::List { rows: 1, pairs: 1 })
+    }
 }
 
 /// The command that a line says, or none where it says none that the program knows.

@@ -1,9 +1,10 @@
 //! Running a script.
-ghost use Rattle.std.specs.Prelude.{IfOk};
+ghost use Rattle.std.specs.Prelude.{IfOk, IfSome};
 ghost use Rattle.protocol.specs.Scripts.{ReadsOn};
+ghost use Rattle.console.specs.Lines.{ChosenGoes, ComesOf};
 
 use super::memory::Memory;
-use super::phase::{Beginning, Chosen, Ending, Phase};
+use super::phase::{Beginning, Chosen, Ending, Phase, answered};
 use super::program::{Program, read};
 use super::start::{ChosenScheme, Next};
 use cells::CellTable;
@@ -14,7 +15,7 @@ use scheme::{CardScheme, Scheme};
 use scheme_file::SchemeFile;
 use std::alloc::AllocGlobal;
 use std::io;
-use std::ops::ControlFlow::{Break, Continue};
+use std::ops::ControlFlow::Break;
 use std::rt::Files;
 use ticket_list::TicketList;
 
@@ -39,7 +40,8 @@ impl<R: Print + Files + AllocGlobal, P: Program> Session<'_, R, P> {
 
     // Runs a phase of a script: what the script goes on with, or none at its end.
     fn run_phase<F: Phase>(&self, script: &mut Script, phase: &mut F) -> io::Result<Option<F::Next>>
-        ensures { IfOk result (λ next. ReadsOn script.old next script.new) }
+        ensures reads { IfOk result (λ next. ReadsOn script.old next script.new) }
+        ensures known { IfOk result (λ next. IfSome next (ComesOf P.knows F.goes)) }
     {
         // Not `for`: the proof does not close, since after a loop over a lent script nothing is known of what is left of it.
         while let Some(line) = script.next() {
@@ -47,12 +49,10 @@ impl<R: Print + Files + AllocGlobal, P: Program> Session<'_, R, P> {
                 self.tell(line, None, Answer::Error)?;
                 continue;
             };
-            match phase.answer(self.rt, command)? {
-                Continue(answer) => self.tell(line, Some(command), answer)?,
-                Break(next) => {
-                    self.tell(line, Some(command), Answer::Done)?;
-                    return Ok(Some(next));
-                }
+            let flow = phase.answer(self.rt, command)?;
+            self.tell(line, Some(command), answered(&flow))?;
+            if let Break(next) = flow {
+                return Ok(Some(next));
             }
         }
         Ok(None)
@@ -65,7 +65,8 @@ impl<R: Print + Files + AllocGlobal, P: Program> Session<'_, R, P> {
         scheme: S,
         holdings: H,
     ) -> io::Result<Option<Next>>
-        ensures { IfOk result (λ next. ReadsOn script.old next script.new) }
+        ensures reads { IfOk result (λ next. ReadsOn script.old next script.new) }
+        ensures known { IfOk result (λ next. IfSome next (ComesOf P.knows ChosenGoes)) }
     {
         let mut set_up = SetUp::new(scheme, holdings);
         match self.run_phase(script, &mut set_up)? {
@@ -85,7 +86,8 @@ impl<R: Print + Files + AllocGlobal, P: Program> Session<'_, R, P> {
         scheme: &ChosenScheme,
         holdings: H,
     ) -> io::Result<Option<Next>>
-        ensures { IfOk result (λ next. ReadsOn script.old next script.new) }
+        ensures reads { IfOk result (λ next. ReadsOn script.old next script.new) }
+        ensures known { IfOk result (λ next. IfSome next (ComesOf P.knows ChosenGoes)) }
     {
         match scheme {
             ChosenScheme::Card => self.run_set_up(script, CardScheme, holdings),
@@ -97,11 +99,12 @@ impl<R: Print + Files + AllocGlobal, P: Program> Session<'_, R, P> {
     }
 
     /// Runs a script to its end. The memory is lent anew to each set-up.
-    pub fn run(&self, text: &str, memory: Memory) -> io::Result<()> {
+    pub fn run(&self, text: &str, memory: Memory<P>) -> io::Result<()> {
         let Memory {
             mut entities,
             mut cells,
             mut pairs,
+            program: _,
         } = memory;
         let entities = entities.as_mut_slice();
         let cells = cells.as_mut_slice();

@@ -2,7 +2,7 @@
 //! prints an answer to each.
 #![tactic(auto)]
 
-ghost use Rattle.std.specs.Prelude.{codes};
+ghost use Rattle.std.specs.Prelude.{codes, refl};
 ghost use Rattle.kuyqelpa.specs.Knowing.{cards_and_cells};
 
 use console::{Program, serve};
@@ -17,6 +17,8 @@ impl Program for Kuyqelpa {
     ghost named = { codes "kuyqelpa" };
 
     ghost knows = { cards_and_cells };
+
+    ghost all_or_none = { λ _ _ _ _. refl };
 
     fn name(&self) -> &'static str {
         "kuyqelpa"

@@ -108,11 +108,18 @@ impl<'e, K: Ord + Copy, V: Copy> OrderedList<'e, K, V> {
         self.count = 0;
     }
 
+    // The entries that there are.
+    fn taken(&self) -> &[Entry<K, V>]
+        ensures { result.now ≡ listed self.now }
+    {
+        &self.entries[..self.count]
+    }
+
     // Where a key is, or else where it would go.
     fn place(&self, key: K) -> Result<usize, usize>
         ensures within { IsSearchInRange result self.now.count }
         ensures location { result ≡ location K.Ord.cmp (listed self.now) key }
     {
-        self.entries[..self.count].binary_search_by_key(&key, |entry| entry.key)
+        self.taken().binary_search_by_key(&key, |entry| entry.key)
     }
 }

@@ -20,7 +20,7 @@ pub fn number(word: &str) -> Option<u32>
     if word.starts_with('+') {
         return None;
     }
-    word.parse().ok()
+    u32::from_str_radix(word, 10).ok()
 }
 
 // A number as a byte. The library numbers types and rights by bytes, and no scheme has a type or a right 255: every

@@ -1,3 +1,4 @@
+mod News
 mod Entries
 mod Fronts
 mod Linking

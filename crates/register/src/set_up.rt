@@ -1,5 +1,5 @@
 //! The set-up: entities are entered and tickets placed by hand, until it is opened.
-ghost use Rattle.std.specs.Prelude.{◌≡◌};
+ghost use Rattle.std.specs.Prelude.{◌≡◌, true};
 ghost use Rattle.model.specs.Refusals.{told, bare};
 ghost use Rattle.model.specs.State.{new};
 ghost use Rattle.model.specs.SetUp.{enter as entering, place as placing, entry_answer, entry_step};
@@ -8,7 +8,7 @@ use super::asking::check_parties;
 use super::book::{Begun, Book};
 use super::gains::gain;
 use super::open::Register;
-use holdings::HoldingsMut;
+use holdings::{Holdings, HoldingsMut};
 use model::{Refusal, Ticket};
 use scheme::Scheme;
 use std::marker::PhantomData;
@@ -24,7 +24,10 @@ impl<S: Scheme, H: HoldingsMut> SetUp<S, H> {
         ensures state { H.Holdings.meaning result.holdings ≡ new }
     {
         let mut holdings = holdings;
-        holdings.clear();
+        // What has just been made is new: to clear it again would go through all its memory a second time.
+        if !are_new(&mut holdings) {
+            holdings.clear();
+        }
         Book {
             scheme,
             holdings,
@@ -80,4 +83,12 @@ impl<S: Scheme, H: HoldingsMut> SetUp<S, H> {
             phase: PhantomData,
         }
     }
+}
+
+// Whether nobody stands and no number has been given: then nobody holds a ticket.
+fn are_new<H: Holdings>(holdings: &mut H) -> bool
+    ensures same { holdings.new ≡ holdings.old }
+    ensures new { result ≡ true → H.Holdings.meaning holdings.old ≡ new }
+{
+    holdings.standing() == 0 && holdings.next_number() == 1
 }

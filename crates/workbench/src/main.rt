@@ -2,7 +2,7 @@
 //! commands and prints an answer to each.
 #![tactic(auto)]
 
-ghost use Rattle.std.specs.Prelude.{true, codes};
+ghost use Rattle.std.specs.Prelude.{true, codes, refl};
 
 use console::{Program, serve};
 use protocol::Start;
@@ -16,6 +16,8 @@ impl Program for Workbench {
     ghost named = { codes "workbench" };
 
     ghost knows = { λ _. true };
+
+    ghost all_or_none = { λ _ _ _ _. refl };
 
     fn name(&self) -> &'static str {
         "workbench"
