@@ -16,4 +16,4 @@ mod sizes;
 mod start;
 
 pub use arguments::serve;
-pub use program::{Program, read};
+pub use program::{ListsAllOrNone, Program, read};

@@ -1,5 +1,5 @@
 //! The memory that is lent to set-ups, anew to each.
-ghost use Rattle.std.specs.Prelude.{◌≡◌, true, length};
+ghost use Rattle.std.specs.Prelude.{◌≡◌, ℕ, true, length};
 ghost use Rattle.protocol.specs.declared.command.Start.TheVariants as start;
 
 use super::program::Program;
@@ -13,7 +13,7 @@ use ticket_list::{MOST_PLACES, Pair};
 // The cells for every pair of rows.
 const CELLS: usize = MOST_ROWS * MOST_ROWS;
 
-/// Memory for a program's set-ups of any size that fits. There are places for pairs where it knows ticket lists.
+/// Memory for a program's set-ups of any size that fits. There are places for pairs where it knows a ticket list.
 #[derive(Drop)]
 pub struct Memory<P: Program> {
     pub(crate) entities: Vec<Entity>,
@@ -22,7 +22,7 @@ pub struct Memory<P: Program> {
     pub(crate) program: PhantomData<P>,
     ghost all_entities: { length entities.items ≡ 512 },
     ghost all_cells: { length cells.items ≡ 262144 },
-    ghost all_pairs: { P.knows (start.List 1 1) ≡ true → length pairs.items ≡ 65535 },
+    ghost all_pairs: { (n p : ℕ) → P.knows (start.List n p) ≡ true → length pairs.items ≡ 65535 },
 }
 
 impl<P: Program> Memory<P> {
@@ -44,11 +44,11 @@ impl<P: Program> Memory<P> {
     }
 }
 
-// How many places for pairs are lent: none where the program knows no ticket list.
+// How many places for pairs are lent: none where the program says that it knows no ticket list.
 fn places<P: Program>(program: &P) -> usize
-    ensures { P.knows (start.List 1 1) ≡ true → result ≡ 65535 }
+    ensures { (n p : ℕ) → P.knows (start.List n p) ≡ true → result ≡ 65535 }
 {
-    if program.knows_lists() {
+    if program.may_know_lists() {
         MOST_PLACES
     } else {
         0

@@ -1,5 +1,5 @@
 //! A program: its name, and which commands it knows.
-ghost use Rattle.std.specs.Prelude.{◌≡◌, ℕ, Bool, List, MatchOption};
+ghost use Rattle.std.specs.Prelude.{◌≡◌, ℕ, Bool, true, List, MatchOption};
 ghost use Rattle.protocol.specs.declared.command.Start.{Start};
 ghost use Rattle.protocol.specs.declared.command.Start.TheVariants as start;
 ghost use Rattle.protocol.specs.Scripts.{words_of};
@@ -16,9 +16,6 @@ pub trait Program {
     /// Which of the commands that start over it knows.
     ghost knows: { Start → Bool };
 
-    /// It knows ticket lists of every size, or of none.
-    ghost all_or_none: { (n p m q : ℕ) → knows (start.List n p) ≡ knows (start.List m q) };
-
     /// Its name, as its texts say it.
     fn name(&self) -> &'static str
         ensures { result.now ≡ named };
@@ -27,12 +24,24 @@ pub trait Program {
     fn knows(&self, start: Start) -> bool
         ensures { result ≡ knows start.entry };
 
-    /// Whether it knows ticket lists.
+    /// Whether it knows the smallest ticket list: where it knows lists of every size or of none, whether it knows any.
     fn knows_lists(&self) -> bool
         ensures { result ≡ knows (start.List 1 1) }
     {
         self.knows(Start::List { rows: 1, pairs: 1 })
     }
+
+    /// Whether it may know ticket lists: true, unless a program says that it knows none of any size. One that says so is lent no places for pairs.
+    fn may_know_lists(&self) -> bool
+        ensures { (n p : ℕ) → knows (start.List n p) ≡ true → result ≡ true }
+    {
+        true
+    }
+}
+
+/// A program that knows ticket lists of every size, or of none.
+pub trait ListsAllOrNone: Program {
+    ghost all_or_none: { (n p m q : ℕ) → Self.knows (start.List n p) ≡ Self.knows (start.List m q) };
 }
 
 /// The command that a line says, or none where it says none that the program knows.

@@ -5,7 +5,7 @@
 ghost use Rattle.std.specs.Prelude.{codes, refl};
 ghost use Rattle.kuyqelpa.specs.Knowing.{cards_and_cells};
 
-use console::{Program, serve};
+use console::{ListsAllOrNone, Program, serve};
 use protocol::Start;
 use std::process::ExitCode;
 
@@ -18,8 +18,6 @@ impl Program for Kuyqelpa {
 
     ghost knows = { cards_and_cells };
 
-    ghost all_or_none = { λ _ _ _ _. refl };
-
     fn name(&self) -> &'static str {
         "kuyqelpa"
     }
@@ -30,6 +28,14 @@ impl Program for Kuyqelpa {
             Start::File { .. } | Start::List { .. } => false,
         }
     }
+
+    fn may_know_lists(&self) -> bool {
+        false
+    }
+}
+
+impl ListsAllOrNone for Kuyqelpa {
+    ghost all_or_none = { λ _ _ _ _. refl };
 }
 
 fn main(rt: HostRuntime) -> ExitCode {

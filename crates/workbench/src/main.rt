@@ -4,7 +4,7 @@
 
 ghost use Rattle.std.specs.Prelude.{true, codes, refl};
 
-use console::{Program, serve};
+use console::{ListsAllOrNone, Program, serve};
 use protocol::Start;
 use std::process::ExitCode;
 
@@ -17,8 +17,6 @@ impl Program for Workbench {
 
     ghost knows = { λ _. true };
 
-    ghost all_or_none = { λ _ _ _ _. refl };
-
     fn name(&self) -> &'static str {
         "workbench"
     }
@@ -26,6 +24,10 @@ impl Program for Workbench {
     fn knows(&self, _start: Start) -> bool {
         true
     }
+}
+
+impl ListsAllOrNone for Workbench {
+    ghost all_or_none = { λ _ _ _ _. refl };
 }
 
 fn main(rt: HostRuntime) -> ExitCode {
